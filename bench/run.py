@@ -6,8 +6,8 @@ as asked for, each in a process of its own. The table gives user and system time
 numbers that the program prints; behind `replay` stands the time that md5sum needs for the trace. A second table has the other
 commands on the same applications: `report`, `certify`, `check`, `record` of the same events, and `watch` of that record (its analysis
 apart, which is what a record of one point takes); behind both stands the time that md5sum needs for the record. A third table is of
-applications whose tasks hold resources in every order (`make_stacks.py`): `show`, and how many times as long it takes as md5sum
-needs for 100 MB here. The last line is that time, to compare machines by.
+applications whose tasks hold resources in every order, or take many activations (`make_stacks.py`): `show`, and how many times as long it
+takes as md5sum needs for 100 MB here. The last line is that time, to compare machines by.
 
     bench/run.py crates/osekfit/out/osekfit
     bench/run.py --tasks 2,4 --events 10000 --stacks 5x1,5x4x72 crates/osekfit/out/osekfit
@@ -109,13 +109,14 @@ def measured_others(program, tasks, words, folder):
     return [str(tasks)] + [cell for each in runs + [watched] for cell in cells_of(each)] + ['%.2f' % checked]
 
 
-def measured_stacks(program, size, words, folder, checksum):
+def measured_stacks(program, size, is_nested, words, folder, checksum):
     """A line of the third table."""
-    make_stacks.write_app(size, folder)
+    make_stacks.write_app(size, folder, is_nested)
     shown = run([program, 'show', 'app.oil', 'app.code'], folder, 'show.out', words.limit)
     counts = counts_of(folder) if shown.status == 0 else {}
     times = '%.2f' % (shown.seconds / checksum) if shown.status == 0 else '-'
-    return [str(number) for number in size] + [counts.get(name, '-') for name in ('points', 'values', 'edges')] + cells_of(shown) + [times]
+    order = 'one' if is_nested else 'any'
+    return [str(number) for number in size] + [order] + [counts.get(name, '-') for name in ('points', 'values', 'edges')] + cells_of(shown) + [times]
 
 
 def cells_of(one):
@@ -137,7 +138,8 @@ def arguments():
     parser = given.Parser(__doc__)
     parser.add_argument('program', metavar='PROGRAM', help='the built osekfit')
     parser.add_argument('--tasks', default='2,4,8,16', help='numbers of tasks, parted by commas')
-    parser.add_argument('--stacks', default='5x1x0,6x1x0,7x1x0,5x4x72,6x8x100', help='resources x tasks x activations, parted by commas')
+    parser.add_argument('--stacks', default='5x1x0,6x1x0,7x1x0,5x4x72,6x8x100,1x16x8x255,8x1x2x255n',
+                        help='resources x tasks x calls x activations, n where resources are taken in one order; parted by commas')
     parser.add_argument('--events', type=int, default=1000000, metavar='N', help='how many events are replayed')
     parser.add_argument('--seed', type=int, default=1)
     parser.add_argument('--limit', type=float, default=600, metavar='SECONDS', help='how long one command may take')
@@ -146,12 +148,14 @@ def arguments():
 
 
 def stack_sizes(text):
-    """The sizes that the option names; a number that is left out is 1 task or no activation."""
-    sizes = [[int(number) for number in part.split('x')] for part in text.split(',') if part]
-    return [make_stacks.Size(*(size + [1, 0][len(size) - 1:])) for size in sizes]
+    """The sizes that the option names, and whether each takes its resources in one order; a number that is left out is 1 task, no call or 1
+    activation."""
+    for part in (part for part in text.split(',') if part):
+        size = [int(number) for number in part.rstrip('n').split('x')]
+        yield make_stacks.Size(*(size + [1, 0, 1][len(size) - 1:])), part.endswith('n')
 
 
-STACK_HEADINGS = ['resources', 'tasks', 'calls', 'points', 'values', 'edges', 'show s', 'MB', 'md5sums']
+STACK_HEADINGS = ['resources', 'tasks', 'calls', 'queued', 'order', 'points', 'values', 'edges', 'show s', 'MB', 'md5sums']
 
 OTHER_HEADINGS = ['tasks', 'report s', 'MB', 'certify s', 'MB', 'check s', 'MB', 'record s', 'MB', 'watch s', 'MB', 'md5sum s']
 
@@ -176,12 +180,12 @@ def main():
         for tasks in sizes:
             printed(measured_others(program, tasks, words, os.path.join(folder, 'tasks%d' % tasks)), other_widths)
         checksum = checksum_seconds(folder)
-        stack_widths = [9, 5, 5, 6, 9, 7, 8, 6, 7]
+        stack_widths = [9, 5, 5, 6, 5, 6, 9, 7, 8, 6, 7]
         print()
         printed(STACK_HEADINGS, stack_widths)
-        for size in stack_sizes(words.stacks):
-            name = 'stacks' + 'x'.join(map(str, size))
-            printed(measured_stacks(program, size, words, os.path.join(folder, name), checksum), stack_widths)
+        for size, is_nested in stack_sizes(words.stacks):
+            name = 'stacks' + 'x'.join(map(str, size)) + ('n' if is_nested else '')
+            printed(measured_stacks(program, size, is_nested, words, os.path.join(folder, name), checksum), stack_widths)
         print('md5sum of 100 MB: %.2f s' % checksum)
     finally:
         if not words.keep:

@@ -3,12 +3,14 @@ taken to be without fault."""
 from collections import namedtuple
 
 import oil
+import rules
 import task_code
 from given import Wrong
+from states import Live
 from task_code import Block, Owner
 
-Source = namedtuple('Source', 'mark name first')
-"""A source of interrupts: a counter (%) or a category 2 ISR (@), and the first block of its routine."""
+Source = namedtuple('Source', 'mark name first priority', defaults=(0,))
+"""A source of interrupts: a counter (%) or a category 2 ISR (@), the first block of its routine, and its priority among routines."""
 
 SITE_CALLS = {'ActivateTask', 'TerminateTask', 'ChainTask', 'Schedule', 'ReleaseResource', 'SetEvent', 'WaitEvent', 'end'}
 """The statements of a task after which the kernel may dispatch another task."""
@@ -54,8 +56,19 @@ class Application:
         firsts = first_blocks(blocks)
         self.first = [firsts[Owner('TASK', task.name)] for task in self.tasks]
         ticks = [Source('%', counter.name, firsts[Owner('TICK', counter.name)]) for counter in self.counters]
-        self.sources = ticks + [Source('@', isr.name, firsts[Owner('ISR', isr.name)])
+        self.sources = ticks + [Source('@', isr.name, firsts[Owner('ISR', isr.name)], isr.priority)
                                 for isr in system.isrs.values() if isr.category == 2]
+        self.internal = [None if task.internal is None else self.resource_number[task.internal] for task in self.tasks]
+
+    def occupied(self, task, activity):
+        """The numbers of the resources that a task has: its INTERNAL one where it is inside, then those that it took; none where it isn't live."""
+        if not isinstance(activity, Live):
+            return ()
+        return ((self.internal[task],) if activity.inside else ()) + activity.held
+
+    def takable(self):
+        """The numbers of the resources that calls take: those that aren't INTERNAL."""
+        return [k for k, resource in enumerate(self.resources) if not resource.is_internal]
 
     def is_site(self, number):
         return is_site(self.blocks[number])
@@ -72,6 +85,15 @@ class Application:
     def own_bits(self):
         """The event bits that tasks have, as pairs of a task's number and a bit."""
         return [(t, bit) for t, task in enumerate(self.tasks) for bit in range(64) if task.own >> bit & 1]
+
+    def blocks_of_source(self, source):
+        owner = self.blocks[self.sources[source].first].owner
+        return [k for k, block in enumerate(self.blocks) if block.owner == owner]
+
+    def source_of(self, block):
+        """The number of the source whose routine has a block."""
+        owner = self.blocks[block].owner
+        return next(k for k, source in enumerate(self.sources) if self.blocks[source.first].owner == owner)
 
     def blocks_of_task(self, task):
         return [k for k, block in enumerate(self.blocks) if block.owner == Owner('TASK', self.tasks[task].name)]
@@ -122,6 +144,7 @@ def joined(system, blocks, names):
         if alarm.counter not in system.counters or alarm.task not in system.tasks or alarm.event not in [None] + list(system.events):
             raise Wrong('%s:%d: alarm %s names what is not declared' % (names[0], alarm.line, alarm.name))
     app = Application(system, blocks + tick_routines(system, len(blocks)))
+    rules.judge_calls(system, blocks, names[1])
     for block in blocks:
         fault = app.fault_of(block)
         if fault:
@@ -131,4 +154,6 @@ def joined(system, blocks, names):
 
 def application_of(oil_text, code_text, names=('the OIL text', 'the task code')):
     """The application of the two texts; the names are the files', for what is told."""
-    return joined(oil.system_of(oil_text, names[0]), task_code.blocks_of(code_text, names[1]), names)
+    objects = oil.objects_of(oil_text, names[0])
+    rules.judge_objects(objects, names[0])
+    return joined(oil.SystemMaker(objects).make(), task_code.blocks_of(code_text, names[1]), names)

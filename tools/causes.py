@@ -130,14 +130,24 @@ def second_ones(texts, _):
         seen.setdefault((found.kind, found.name), found.line)
 
 
-def shared_priorities(texts, _):
-    seen = {}
-    for found in texts.objects():
-        priority = number_of(oil.value(found.attributes, 'PRIORITY', '')) if found.kind == 'TASK' else None
-        if priority is not None:
-            if oil.first(found.attributes, 'PRIORITY').line == texts.place and priority in seen:
-                yield 'first: TASK %s has %d too' % (seen[priority], priority)
-            seen.setdefault(priority, found.name)
+def second_internal(texts, _):
+    """The INTERNAL resources that a task of the line names, and where they stand."""
+    objects = texts.objects()
+    internal = {o.name: o.line for o in objects if o.kind == 'RESOURCE' and oil.value(o.attributes, 'RESOURCEPROPERTY') == 'INTERNAL'}
+    for found in {o.name: o for o, _ in texts.on_the_line() if o.kind == 'TASK'}.values():
+        for name in dict.fromkeys(n for n in oil.values(found.attributes, 'RESOURCE') if n in internal):
+            yield 'here: TASK %s names %s, which line %d makes INTERNAL' % (found.name, name, internal[name])
+
+
+def resources_in_calls(texts, _):
+    """What the OIL text says of resources that calls of the line take or give back."""
+    system = texts.system()
+    for block in (b for b in texts.blocks() if b.line == texts.place and b.word in ('GetResource', 'ReleaseResource')):
+        name, isr = block.arguments[0][0], system.isrs.get(block.owner.name) if block.owner.kind == 'ISR' else None
+        if isr and name not in isr.resources:
+            yield 'here: ISR %s names %s' % (isr.name, ', '.join(isr.resources) or 'no resource')
+        elif name in system.resources and system.resources[name].is_internal:
+            yield 'here: %s is INTERNAL on line %d' % (name, system.resources[name].line)
 
 
 def counters(texts, _):
@@ -198,7 +208,7 @@ def points_of_the_block(texts, _):
     yield 'here: b%s is of the %s %s: %s' % (block, OWNERS[owner.kind], owner.name, ', '.join(shown))
 
 
-TELLERS = {'L1': signs, 'S': wanted, 'O2': second_ones, 'O4': missing, 'O6': unfit_values, 'O7': undeclared, 'O8': shared_priorities,
-           'O14': counters, 'C1': bodies, 'C2': bodies, 'C4': names_in_calls,
+TELLERS = {'L1': signs, 'S': wanted, 'O2': second_ones, 'O4': missing, 'O6': unfit_values, 'O7': undeclared,
+           'O14': counters, 'O16': second_internal, 'C6': resources_in_calls, 'C10': resources_in_calls, 'C1': bodies, 'C2': bodies, 'C4': names_in_calls,
            'C7': locks_that_do_not_pair, 'E2': sources, 'G2': points_of_the_block}
 """What tells of a rule, or of a letter of rules."""

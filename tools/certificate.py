@@ -4,7 +4,7 @@ may be set, and whether alarms may be armed. Both files are read here, and not b
 rule and its offset. Whether the table certifies the image is what `osekfit check` says.
 
     tools/certificate.py a.image a.table                     a line a point
-    tools/certificate.py --task T1 a.image a.table           one task or alarm
+    tools/certificate.py --task T1 a.image a.table           one task, alarm or routine
     tools/certificate.py --point b3 a.image a.table          one point
     tools/certificate.py --code a.code a.image a.table       with the source lines
     tools/certificate.py --chart a.image a.table > a.svg     a row a point, a column a task, dark by how many values it may have
@@ -58,7 +58,7 @@ def arguments():
     parser.add_argument('image', metavar='IMAGE')
     parser.add_argument('table', metavar='TABLE')
     parser.add_argument('--point', metavar='POINT', help='one point, as `osekfit show` has it')
-    parser.add_argument('--task', metavar='NAME', help='one task, or one alarm')
+    parser.add_argument('--task', metavar='NAME', help='one task, alarm or routine')
     parser.add_argument('--code', metavar='FILE', help='the task code, for its lines')
     parser.add_argument('--chart', action='store_true', help='a picture (SVG)')
     return parser.parse_args()
@@ -70,8 +70,8 @@ def main():
     if words.chart:
         sys.stdout.write(certificate_chart.chart(app, table, words.table))
         return
-    if words.task is not None and words.task not in [one.name for one in app.tasks + app.alarms]:
-        raise Wrong('%s is no task and no alarm of the image' % words.task)
+    if words.task is not None and words.task not in [one.name for one in app.tasks + app.alarms + app.sources]:
+        raise Wrong('%s is no task, alarm or routine of the image' % words.task)
     code = (words.code, contents(words.code).splitlines()) if words.code else None
     for line in lines_of(app, table, chosen_points(app, table, words.point), words.task, code):
         print(line)

@@ -2,10 +2,11 @@
 values."""
 import copy
 
+import opened
 from image import image
 from points import points_of
 from states import KEEP, OK, To
-from table_bytes import LIVE, SUSPENDED, WAITING, Shapes, spelled
+from table_bytes import IN, LIVE, OUT, SUSPENDED, WAITING, Shapes, spelled
 
 
 class Changes:
@@ -48,8 +49,18 @@ class Changes:
         """A point more, with one value of each component."""
         point = self.random.choice(points_of(self.app))
         if point not in table:
-            tasks = [[self.value(self.shapes.at(point, task))] for task in range(len(self.app.tasks))]
-            table[point] = tasks + [[self.random.randrange(2)] for _ in self.app.own_bits() + self.app.alarms]
+            table[point] = [[self.value_at(point, component)] for component in range(self.components())]
+
+    def components(self):
+        sources = self.app.sources if opened.has(opened.NESTED) else []
+        return len(self.app.tasks) + len(self.app.own_bits()) + len(self.app.alarms) + len(sources)
+
+    def value_at(self, point, component):
+        """A value that is possible for a component at a point."""
+        last = len(self.app.tasks) + len(self.app.own_bits()) + len(self.app.alarms)
+        if component < len(self.app.tasks):
+            return self.value(self.shapes.at(point, component))
+        return self.random.randrange(2) if component < last else self.routine(self.shapes.source_at(point, component - last))
 
     def without_value(self, table):
         if table:
@@ -61,9 +72,7 @@ class Changes:
         if table:
             point = self.random.choice(sorted(table))
             component = self.random.randrange(len(table[point]))
-            is_task = component < len(self.app.tasks)
-            value = self.value(self.shapes.at(point, component)) if is_task else self.random.randrange(2)
-            table[point][component] = sorted({value, *table[point][component]})
+            table[point][component] = sorted({self.value_at(point, component), *table[point][component]})
 
     def value(self, shape):
         """A value that is possible for a task of this shape."""
@@ -72,5 +81,13 @@ class Changes:
             return (tag,)
         if tag == WAITING:
             return (tag, self.random.choice(shape.waiting))
+        return (LIVE, self.random.choice(shape.live), self.random.choice(shape.further), self.random.choice(shape.inside)) + self.stack(shape)
+
+    def routine(self, shape):
+        """A value that is possible for a source of this shape."""
+        tag = self.random.choice(shape.tags)
+        return (tag,) if tag == OUT else (IN, self.random.choice(shape.blocks)) + self.stack(shape)
+
+    def stack(self, shape):
         held = self.random.sample(shape.resources, self.random.choice([0, 0, 0, len(shape.resources)]))
-        return (LIVE, self.random.choice(shape.live), 0, 0, len(held)) + tuple(held)
+        return (len(held),) + tuple(held)

@@ -1,8 +1,11 @@
-"""The picture of certificate.py: a row for each point and a column for each task, dark by how many values the task may have there."""
+"""The picture of certificate.py: a row for each point and a column for each task, and for each routine where they nest, dark by how many values it
+may have there; a routine that is out counts for none."""
 import math
 
+import opened
 from drawing import FAINT, INK, LINE, Drawing
 from points import block_of, points_of, shown_point
+from table_bytes import OUT
 from table_words import Wording
 
 LIGHT, DARK = (0xdd, 0xf4, 0xff), (0x0a, 0x30, 0x69)
@@ -23,11 +26,20 @@ class Chart:
         self.app, self.table, self.wording, self.drawing = app, table, Wording(app), Drawing()
         self.points = points_of(app)
         self.height = next((height for most, height in HEIGHTS if len(self.points) <= most), 2)
-        self.most = max([len(values) for sets in table.values() for values in sets[:len(app.tasks)]] + [1])
+        self.columns = [(task.name, number) for number, task in enumerate(app.tasks)]
+        if opened.has(opened.NESTED):
+            last = len(app.tasks) + len(app.own_bits()) + len(app.alarms)
+            self.columns += [(source.mark + source.name, last + number) for number, source in enumerate(app.sources)]
+        self.most = max([self.count(point, component) for point in table for _, component in self.columns] + [1])
         self.left = max(CHARACTER * len(name) for point in self.points for name in (self.owner(point), shown_point(app, point))) + 24
         self.lefts = [self.left]
-        for task in app.tasks:
-            self.lefts.append(self.lefts[-1] + max(40, CHARACTER * len(task.name) + 12))
+        for name, _ in self.columns:
+            self.lefts.append(self.lefts[-1] + max(40, CHARACTER * len(name) + 12))
+
+    def count(self, point, component):
+        """How many values a component may have at a point."""
+        values = self.table[point][component] if point in self.table else []
+        return len(values) if component < len(self.app.tasks) else len([value for value in values if value != (OUT,)])
 
     def owner(self, point):
         """Whose a point is."""
@@ -53,33 +65,36 @@ class Chart:
                 text = shown_point(self.app, point) if self.height >= READABLE else self.owner(point)
                 self.drawing.text(self.left - 10, self.top(row) + min(11, self.height + 3), text, 10, INK if point in self.table else FAINT, anchor='end')
 
-    def draw_column(self, task):
-        """The cells of a task; those of one shade that stand side by side are one where they are too low to be told apart."""
-        left, width = self.lefts[task], self.lefts[task + 1] - self.lefts[task] - 2
-        self.drawing.text(left + width / 2, HEAD - 8, self.app.tasks[task].name, 11, anchor='middle')
-        counts = [len(self.table[point][task]) if point in self.table else 0 for point in self.points]
+    def draw_column(self, column):
+        """The cells of a task or a routine; those of one shade that stand side by side are one where they are too low to be told apart."""
+        name, component = self.columns[column]
+        left, width = self.lefts[column], self.lefts[column + 1] - self.lefts[column] - 2
+        self.drawing.text(left + width / 2, HEAD - 8, name, 11, anchor='middle')
+        counts = [self.count(point, component) for point in self.points]
         row = 0
         while row < len(counts):
             end = row + 1
             while self.height < READABLE and end < len(counts) and counts[end] == counts[row]:
                 end += 1
             if counts[row]:
-                self.drawing.rect(left, self.top(row), width, self.height * (end - row), self.shade(counts[row]), self.told(row, task))
+                self.drawing.rect(left, self.top(row), width, self.height * (end - row), self.shade(counts[row]), self.told(row, column))
             row = end
 
-    def told(self, row, task):
+    def told(self, row, column):
         if self.height < READABLE:
             return None
-        point = self.points[row]
-        text = '%s, %s: %s' % (shown_point(self.app, point), self.app.tasks[task].name, self.wording.task(point, task, self.table[point][task]))
+        point, (name, component) = self.points[row], self.columns[column]
+        values = self.table[point][component]
+        said = self.wording.task(point, component, values) if component < len(self.app.tasks) else self.wording.routine(point, values)
+        text = '%s, %s: %s' % (shown_point(self.app, point), name, said)
         return text if len(text) <= MOST_TOLD else text[:MOST_TOLD] + '..'
 
     def draw(self, title):
         self.drawing.text(12, 20, title, 14)
         told = 'white: no state of the table stands here; light: one value' + ('; dark: %d' % self.most if self.most > 1 else '')
         self.drawing.text(12, 38, told, 10, FAINT)
-        for task in range(len(self.app.tasks)):
-            self.draw_column(task)
+        for column in range(len(self.columns)):
+            self.draw_column(column)
         self.draw_names()
         return self.drawing.svg(max(self.lefts[-1] + 12, CHARACTER * len(told), 9 * len(title)), self.top(len(self.points)) + 14)
 

@@ -6,8 +6,8 @@ import image
 from image_reader import read_image
 from least_table import Analysis, TableSteps, point_of
 from points import shown_point
-from states import SUSPENDED, Live, Waiting
-from table_bytes import HELD, LIVE, Fault, read_table, spelled
+from states import OUT, SUSPENDED, In, Live, Waiting
+from table_bytes import HELD, LIVE, ROUTINE_HELD, Fault, read_table, spelled
 
 DAMAGED, DENIED = 11, 12
 """The statuses of a table with a fault in its bytes, and of one that certifies nothing."""
@@ -17,21 +17,39 @@ def fields_of(value):
     """The fields of a task's value."""
     if value == SUSPENDED:
         return (0,)
-    return (2, value.block) if isinstance(value, Waiting) else (1, value.block, 0, 0, len(value.held)) + value.held
+    if isinstance(value, Waiting):
+        return (2, value.block)
+    return (1, value.block, value.further, int(value.inside), len(value.held)) + value.held
 
 
 def value_of(fields):
     """The task's value that has these fields."""
     if len(fields) == 1:
         return SUSPENDED
-    return Live(fields[1], 0, fields[HELD:]) if fields[0] == LIVE else Waiting(fields[1])
+    return Live(fields[1], 0, fields[HELD:], fields[2], fields[3] == 1) if fields[0] == LIVE else Waiting(fields[1])
+
+
+def fields_of_routine(value):
+    """The fields of a source's value."""
+    return (0,) if value == OUT else (1, value.block, len(value.held)) + value.held
+
+
+def routine_of(fields):
+    """The source's value that has these fields."""
+    return OUT if len(fields) == 1 else In(fields[1], 0, fields[ROUTINE_HELD:])
+
+
+def by_kind(app, sets, of_task, of_flag, of_routine):
+    """The sets of a point, each by what is done with a task's, with a bit's or an alarm's, and with a source's."""
+    tasks, last = len(app.tasks), len(app.tasks) + len(app.own_bits()) + len(app.alarms)
+    return [*map(of_task, sets[:tasks]), *map(of_flag, sets[tasks:last]), *map(of_routine, sets[last:])]
 
 
 def table_of(analysis):
     """The table of an analysis, as table_bytes has tables."""
-    tasks = len(analysis.app.tasks)
-    return {point: [sorted(map(fields_of, values)) for values in sets[:tasks]] + [sorted(map(int, values)) for values in sets[tasks:]]
-            for point, sets in analysis.table.items()}
+    def listed(fields):
+        return lambda values: sorted(map(fields, values))
+    return {point: by_kind(analysis.app, sets, listed(fields_of), listed(int), listed(fields_of_routine)) for point, sets in analysis.table.items()}
 
 
 def certified(app):
@@ -45,8 +63,8 @@ class Check(TableSteps):
 
     def __init__(self, stored, table):
         super().__init__(stored.app)
-        self.stored, tasks = stored, len(stored.app.tasks)
-        self.table = {point: [set(map(value_of, values)) for values in sets[:tasks]] + [set(values) for values in sets[tasks:]]
+        self.stored = stored
+        self.table = {point: by_kind(self.app, sets, lambda values: set(map(value_of, values)), set, lambda values: set(map(routine_of, values)))
                       for point, sets in table.items()}
 
     def has(self, state):

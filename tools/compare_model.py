@@ -1,11 +1,12 @@
 #!/usr/bin/env python3
 """Compares a built osekfit with the model of model.py on small applications that are made at random.
 
-Each application has all kinds of objects and statements, right or wrong in use. What `build` stores has to be the model's image, byte for
+Each application has all kinds of objects and statements, right or wrong in use: tasks that share a priority, several activations, groups of
+tasks by INTERNAL resources. What `build` stores has to be the model's image, byte for
 byte; what `trace` prints, and `replay` of the image and of changed ones, what the model prints, in each mode; and `show` what it shows. Where the program has
 `certify` and `check`, the table has to be the model's, and of changed images and tables both have to say the same. Where it has `record`,
 `watch` and `report`, both have to print the same records of the image and of changed ones, and say the same of these and of changed records.
-An application that differs is kept.
+An application that differs is kept. The model goes state by state, so applications whose least tables admit too many are left out.
 
     tools/compare_model.py crates/osekfit/out/osekfit --count 100 --seed 7
 """
@@ -21,6 +22,7 @@ import findings
 import image
 import least_table
 import model
+import opened
 import records
 import table_bytes
 from application import application_of
@@ -41,8 +43,14 @@ FOR_ALL = ['work %(number)d', 'work %(number)d', 'SetEvent(%(task)s, %(mask)s)',
 RARE = ['ShutdownOS(E_OK)', 'Schedule()', 'TerminateTask()', 'WaitEvent(%(mask)s)']
 """Statements of routines that are refused, and the one that ends all."""
 
+FOR_NESTS = ['GetResource(%(resource)s)', 'GetResource(%(resource)s)', 'ReleaseResource(%(resource)s)', 'work 1']
+"""Those of routines that nest."""
+
 CHANGED = 6
 """How many changed certificates of an application are checked."""
+
+MOST_ASKED = 20000
+"""How many states of an application the model asks at most."""
 
 
 class Maker:
@@ -50,17 +58,25 @@ class Maker:
 
     def __init__(self, seed):
         self.random = random.Random(seed)
-        self.tasks = ['T%d' % k for k in range(self.random.randint(1, 3))]
+        self.is_crowd = self.chance(0.3)  # more tasks, of short bodies
+        self.tasks = ['T%d' % k for k in range(self.random.randint(3, 5) if self.is_crowd else self.random.randint(1, 3))]
         self.events = ['E%d' % k for k in range(self.random.randint(1, 2))]
+        self.resources = ['R', 'Q'] if self.chance(0.2) else ['R']
+        self.groups = ['G', 'H'] if self.chance(0.3) else ['G']
         self.has_alarm = self.random.random() < 0.6
+        self.isrs = ['I', 'J'] if opened.has(opened.NESTED) and self.chance(0.6) else ['I']
 
     def chance(self, share):
         return self.random.random() < share
 
     def oil(self):
         priorities = self.random.sample(range(1, 9), len(self.tasks))
+        if self.chance(0.7):
+            priorities = [self.random.choice(priorities[:2]) for _ in priorities]
         os_ = ' '.join('%s = TRUE;' % hook for hook in HOOKS if self.chance(0.5)) + (' USERESSCHEDULER = FALSE;' if self.chance(0.5) else '')
-        lines = ['OS os { %s };' % os_, 'APPMODE M1;', 'RESOURCE R;', 'COUNTER C { MAXALLOWEDVALUE = 3; };', 'ISR I { CATEGORY = 2; };']
+        lines = ['OS os { %s };' % os_, 'APPMODE M1;', 'COUNTER C { MAXALLOWEDVALUE = 3; };'] + [self.isr(name) for name in self.isrs]
+        lines += ['RESOURCE %s;' % r for r in self.resources]
+        lines += ['RESOURCE %s { RESOURCEPROPERTY = INTERNAL; };' % g for g in self.groups]
         lines += ['EVENT %s%s;' % (e, self.random.choice(['', ' { MASK = 6; }'])) for e in self.events]
         lines += [self.task(*pair) for pair in zip(self.tasks, priorities)]
         lines += [self.alarm()] if self.has_alarm else []
@@ -69,8 +85,18 @@ class Maker:
     def task(self, name, priority):
         words = ['PRIORITY = %d;' % priority, 'AUTOSTART = %s;' % self.random.choice(['TRUE', 'TRUE { APPMODE = M1; }', 'FALSE'])]
         words += ['SCHEDULE = NON;'] if self.chance(0.2) else []
-        words += ['RESOURCE = R;'] if self.chance(0.6) else []
-        return 'TASK %s { %s };' % (name, ' '.join(words + ['EVENT = %s;' % e for e in self.events if self.chance(0.5)]))
+        words += ['RESOURCE = %s;' % r for r in self.resources if self.chance(0.6)]
+        words += ['RESOURCE = %s;' % self.random.choice(self.groups)] if self.chance(0.5) else []
+        events = ['EVENT = %s;' % e for e in self.events if self.chance(0.5)]
+        if self.chance(0.5):
+            events = ['ACTIVATION = %d;' % self.random.choice([2, 2, 3, 3, 255])]
+        return 'TASK %s { %s };' % (name, ' '.join(words + events))
+
+    def isr(self, name):
+        words = ['CATEGORY = 2;']
+        if opened.has(opened.NESTED):
+            words += ['PRIORITY = %d;' % self.random.randint(0, 2)] + ['RESOURCE = %s;' % r for r in self.resources]
+        return 'ISR %s { %s };' % (name, ' '.join(words))
 
     def alarm(self):
         task = self.random.choice(self.tasks)
@@ -79,8 +105,10 @@ class Maker:
         return 'ALARM A { COUNTER = C; ACTION = %s; AUTOSTART = %s; };' % (action, start)
 
     def code(self):
-        bodies = ['TASK(%s) {\n%s}\n' % (name, self.statements(FOR_ALL + FOR_TASKS, 6)) for name in self.tasks]
-        return ''.join(bodies) + 'ISR(I) {\n%s}\n' % self.statements(FOR_ALL + RARE, 3)
+        most = 3 if self.is_crowd else 6
+        bodies = ['TASK(%s) {\n%s}\n' % (name, self.statements(FOR_ALL + FOR_TASKS, most)) for name in self.tasks]
+        words = FOR_ALL + RARE + (FOR_NESTS if opened.has(opened.NESTED) else [])
+        return ''.join(bodies) + ''.join('ISR(%s) {\n%s}\n' % (name, self.statements(words, 3)) for name in self.isrs)
 
     def statements(self, words, most, depth=0):
         return ''.join(self.statement(words, depth) + '\n' for _ in range(self.random.randint(1, most)))
@@ -89,7 +117,7 @@ class Maker:
         if depth < 2 and self.chance(0.25):
             return self.nested(words, depth + 1)
         text = self.random.choice([w for w in words if self.has_alarm or '(A' not in w]) % {
-            'task': self.random.choice(self.tasks), 'resource': 'R', 'number': self.random.randint(1, 4), 'cycle': self.random.choice([0, 0, 2, 5]),
+            'task': self.random.choice(self.tasks), 'resource': self.random.choice(self.resources), 'number': self.random.randint(1, 4), 'cycle': self.random.choice([0, 0, 2, 5]),
             'mask': ' | '.join(self.random.sample(self.events, self.random.randint(1, len(self.events))))}
         return text + ';'
 
@@ -103,7 +131,8 @@ class Maker:
         return '%s {\n%s}%s' % (head, inner, ' else { work 1; }' if kind == 1 and self.chance(0.5) else '')
 
     def events_text(self, count):
-        return ''.join(self.random.choice(['run 0', 'run 1', 'run 0', 'run 1', 'irq I', 'tick C']) + '\n' for _ in range(count))
+        requests = ['irq ' + name for name in self.isrs] + ['tick C']
+        return ''.join(self.random.choice(['run 0', 'run 1', 'run 0', 'run 1'] + requests) + '\n' for _ in range(count))
 
 
 def answer(program, words, folder):
@@ -112,9 +141,11 @@ def answer(program, words, folder):
 
 
 def differences(program, folder, events, chance):
-    """The commands whose answers differ from the model's over the texts of a folder."""
+    """The commands whose answers differ from the model's over the texts of a folder; None where the model would take too long."""
     app, found = application_of(*(data(os.path.join(folder, name)).decode('ascii') for name in ('a.oil', 'a.code'))), []
-    analysis = least_table.Analysis(app).solve()
+    analysis = least_table.Analysis(app).solve(MOST_ASKED)
+    if analysis is None:
+        return None
     refusal = answer(program, ['build', 'a.oil', 'a.code', 'a.image'], folder)
     if refusal or data(os.path.join(folder, 'a.image')) != image.image(app, analysis.shown, analysis.noted):
         found.append('build')
@@ -220,18 +251,19 @@ def arguments():
 
 def main():
     words = arguments()
-    program, wrong = os.path.abspath(words.program), 0
+    program, wrong, left_out = os.path.abspath(words.program), 0, 0
     if not os.access(program, os.X_OK):
         raise Wrong('%s: no program' % words.program)
     for seed in range(words.seed, words.seed + words.count):
         folder = tempfile.mkdtemp(prefix='osekfit-model-')
         found = compare(program, seed, folder)
+        left_out += found is None
         if found:
             wrong += 1
-            print('seed %d: %s differ: %s' % (seed, ', '.join(found), folder))
+            print('seed %d: %s differ: %s' % (seed, ', '.join(found), folder), flush=True)
         else:
             shutil.rmtree(folder)
-    print('%d applications, %d differ' % (words.count, wrong))
+    print('%d applications, %d differ%s' % (words.count - left_out, wrong, ', %d left out' % left_out if left_out else ''))
     return 1 if wrong else 0
 
 

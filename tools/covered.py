@@ -91,11 +91,20 @@ class Owners:
         over = '' if point.over is None else ' over nobody' if point.over == '-' else ' over ' + point.over
         return block.owner.name + (' line %d' % block.line if block.line else ' ' + block.text) + over
 
+    def goes_below(self, before, after):
+        """Whether an edge from a routine's end goes to a routine that waits below it, and isn't an interrupt there."""
+        if before.kind != 'routine':
+            return False
+        above, below = (self.app.sources[self.app.source_of(point.block)] for point in (before, after))
+        return after.block != below.first or below.priority <= above.priority
+
     def outcome(self, edge, sites):
         """The site's block and what it does with the processor; None where the edge is none of a site's instruction."""
         before, after = edge
-        if before.block not in sites or (after.kind == 'routine' and before != after):
+        if before.block not in sites or (after.kind == 'routine' and before != after and not self.goes_below(before, after)):
             return None
+        if after.kind == 'routine' and before != after:
+            return before.block, 'returns'
         if before.kind == 'routine' and after.kind == ('idle' if before.over == '-' else 'task') and \
                 (after.kind == 'idle' or self.name(after) == before.over):
             return before.block, 'returns'

@@ -1,7 +1,7 @@
 """What can't happen in an application, by the least table of model.py: the lines of `report`."""
 from least_table import Analysis
 from points import block_of
-from states import SUSPENDED, Live
+from states import SUSPENDED, In, Live
 
 HOOKS = ['Error', 'Startup', 'Shutdown', 'PostTask', 'PreTask']
 """The hooks in the order in which those that never come are told."""
@@ -39,8 +39,8 @@ class Findings:
         if word != 'GetResource' or not entries:
             return False
         resource = self.app.resource_number[arguments[0][0]]
-        values = [value for sets in entries for found in sets[:self.count] for value in found]
-        return not any(isinstance(value, Live) and resource in value.held for value in values)
+        values = [value for sets in entries for found in sets for value in found]
+        return not any(isinstance(value, (Live, In)) and resource in value.held for value in values)
 
 
 def report(app, analysis=None):

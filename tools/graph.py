@@ -93,6 +93,7 @@ class Owners:
 
     def __init__(self, graph, code, system=None):
         self.blocks = task_code.blocks_of(code) if code is not None else []
+        self.sites, self.system = graph.sites, system
         self.ticks = tick_routines(graph, len(self.blocks), system) if code is not None else {}
         self.alarms = alarms_of(self.ticks, system)
         if code is not None:
@@ -133,12 +134,28 @@ class Owners:
         if after.kind == 'halt':
             return 'shutdown'
         if after.kind == 'routine':
-            return 'flow' if before.kind == 'routine' else 'interrupt'
+            return self.kind_of_routine_edge(before, after) if before.kind == 'routine' else 'interrupt'
         if before.kind == 'routine':
             return 'return' if self.is_return(before, after) else 'dispatch'
         if after.kind == 'idle':
             return 'idle'
         return self.kind_of_task_edge(before, after)
+
+    def kind_of_routine_edge(self, before, after):
+        """Within a routine, into another one that begins above it, or back to one that waits below it. At the end of a routine the priorities tell
+        an interrupt from a return to a routine's first block."""
+        first, last = self.owner(before), self.owner(after)
+        if first is None or last is None or first == last:
+            return 'flow'
+        if before.block not in self.sites:
+            return 'interrupt'
+        if self.owner(after._replace(block=after.block - 1)) == last:
+            return 'return'
+        return '' if self.system is None else 'interrupt' if self.priority(last) > self.priority(first) else 'return'
+
+    def priority(self, owner):
+        """The priority of a routine; a tick routine has the lowest."""
+        return self.system.isrs[owner.name].priority if owner.kind == 'ISR' else 0
 
     def is_return(self, before, after):
         """Whether a routine's end goes back to what was interrupted; an unknown owner counts as that."""

@@ -39,10 +39,10 @@ def image(app, shown, noted):
     parts += [number(len(objects), 1) for objects in (app.tasks, isrs, app.counters, app.alarms, app.resources, app.modes)]
     parts += [number(len(app.blocks), 2)]
     parts += [task(app, k) for k in range(len(app.tasks))]
-    parts += [name(isr.name) + place(app, isr.first) + b'\0' for isr in isrs]
+    parts += [name(isr.name) + place(app, isr.first) + number(isr.priority, 1) for isr in isrs]
     parts += [counter(app, source) for source in app.sources if source.mark == '%']
     parts += [alarm(app, one) for one in app.alarms]
-    parts += [name(one.name) + number(one.ceiling, 4) + bytes(3) for one in app.resources]
+    parts += [name(one.name) + number(one.ceiling, 4) + number(one.is_internal, 1) + number(one.interrupt_ceiling, 2) for one in app.resources]
     parts += [name(mode) for mode in app.modes]
     return b''.join(parts + [block(app, k, shown, noted) for k in range(len(app.blocks))])
 
@@ -56,7 +56,7 @@ def place(app, first):
 def task(app, k):
     one = app.tasks[k]
     return (name(one.name) + number(one.priority, 2) + number(one.is_full, 1) + number(one.own, 8) + number(bits(one.modes), 1)
-            + place(app, app.first[k]) + b'\1' + number(NOBODY, 1))
+            + place(app, app.first[k]) + number(one.activation, 1) + number(NOBODY if app.internal[k] is None else app.internal[k], 1))
 
 
 def counter(app, source):

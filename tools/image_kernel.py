@@ -2,7 +2,7 @@
 another status than the known one. Where none is noted, a known status is no trap."""
 from image import ANY, GENERAL, NEVER, NOBODY, STAY
 from kernel import Kernel
-from states import KEEP, LEFT, STATUSES, Live
+from states import KEEP, LEFT, STATUSES, Live, Routine
 
 
 class Trap(Exception):
@@ -31,7 +31,9 @@ class ImageKernel(Kernel):
         if form == STAY:
             if has_left and ran is not None:
                 raise Trap
-            return effect.state, KEEP, []
+            return self.kept(effect.state), KEEP, []
+        if isinstance(effect.state.processor, Routine):  # another routine goes on
+            raise Trap
         task = None if form[1] == NOBODY else form[1]
         if not (has_left if task is None else isinstance(effect.state.tasks[task], Live)):
             raise Trap

@@ -3,10 +3,11 @@ told as such; osekfit alone judges which rule they violate."""
 from collections import namedtuple
 
 import oil
+import opened
 from application import SHAPES, Application, is_site
 from fields import Cut, Fields
 from given import Wrong
-from image import ANY, END_OF_ROUTINE, END_OF_TASK, HOOKS, KINDS, LOCK
+from image import ANY, END_OF_ROUTINE, END_OF_TASK, HOOKS, KINDS, LOCK, NOBODY
 from task_code import LOCKS, Block, Owner
 
 Stored = namedtuple('Stored', 'version app forms known')
@@ -31,6 +32,7 @@ class ImageReader(Fields):
         alarms = [one._replace(counter=self.names['c'][one.counter], task=self.names['t'][one.task]) for one in lists[3]]
         self.forms, self.known = {}, {}
         blocks = [self.block(k) for k in range(count)]
+        lists[0] = [task._replace(internal=None if task.internal is None else self.names['r'][task.internal]) for task in lists[0]]
         tasks, isrs, counters, resources = ({one.name: one for one in lists[k]} for k in (0, 1, 2, 4))
         system = oil.System([HOOKS[k] for k in hooks], lists[5], tasks, isrs, counters, {one.name: one for one in alarms}, self.masks, resources)
         return Stored(self.version, Application(system, blocks), self.forms, self.known)
@@ -45,9 +47,12 @@ class ImageReader(Fields):
         found = self.number(size)
         return [k for k in range(8 * size) if found >> k & 1]
 
-    def later(self, size):
-        """A field that version 1 doesn't have."""
-        return self.take(size) if self.version > 1 else None
+    def later(self, size, usual, part=None):
+        """A field that version 1 doesn't have; as long as a part of the language isn't opened, only its usual value is one."""
+        found = self.number(size) if self.version > 1 else usual
+        if found != usual and part and not opened.has(part):
+            raise Cut
+        return found
 
     def place_of(self, kind, name):
         """Whose so many blocks from the first one are."""
@@ -66,14 +71,13 @@ class ImageReader(Fields):
         name, priority, is_full, own = self.name(), self.number(2), self.number(1) == 1, self.number(8)
         modes = frozenset(self.bits(1))
         self.place_of('TASK', name)
-        self.later(2)
-        return oil.Task(name, priority, is_full, [], own, [], modes, 0)
+        activation, internal = self.later(1, 1), self.later(1, NOBODY)
+        return oil.Task(name, priority, is_full, [], own, [], modes, 0, activation, None if internal == NOBODY else internal)
 
     def isr(self):
         name = self.name()
         self.place_of('ISR', name)
-        self.later(1)
-        return oil.Isr(name, 2, 0)
+        return oil.Isr(name, 2, 0, self.later(1, 0, opened.NESTED))
 
     def counter(self):
         found = oil.Counter(self.name(), self.number(4), self.number(4), 0)
@@ -87,9 +91,7 @@ class ImageReader(Fields):
         return oil.Alarm(name, counter, task, event if is_event else None, self.masks[event], modes, self.number(4), self.number(4), 0)
 
     def resource(self):
-        found = oil.Resource(self.name(), self.number(4), 0)
-        self.later(3)
-        return found
+        return oil.Resource(self.name(), self.number(4), 0, self.later(1, 0) == 1, self.later(2, 0, opened.NESTED))
 
     # Blocks.
 

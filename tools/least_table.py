@@ -1,14 +1,17 @@
 """The least table of an application in the model of model.py, and what `show` prints of it.
 
-A table has for each point the values that each task, each event bit and each alarm may have there. The least one has the starts of all
-modes, and the steps of all states that it admits. Here these are done one by one: every choice of one value a component is a state, with
-every choice of what the table doesn't keep (latches, where within `work` the processor is, whether an alarm is due, which of the tasks that
-share a priority is ready longest)."""
+A table has for each point the values that each task, each event bit, each alarm and each routine may have there. The least one has the starts
+of all modes, and the steps of all states that it admits. Here these are done one by one: every choice of one value a component is a state, with
+every choice of what the table doesn't keep (latches, where within `work` the processor is, whether an alarm is due, which task stands first in
+the line)."""
 import itertools
+import math
 
+import opened
 from kernel import Kernel
 from points import HALT_POINT, IDLE_POINT, NOBODY, block_point, points_of, shown_point
-from states import ARRIVAL, HALTED, IDLE, KEEP, NOTHING, Armed, Live, Routine, Running, State, To, at_place, executing, place_of, with_alarm
+from states import ARRIVAL, HALTED, IDLE, KEEP, NOTHING, OUT, Armed, In, Live, Routine, Running, State, To, at_place, executing, place_of, \
+    replaced, with_alarm, without_first
 
 MOST_ASKED = 100000
 """How many states are asked at most where a tool can do without the table."""
@@ -23,7 +26,7 @@ def point_of(state):
 
 class TableSteps:
     """The states that a table admits, and what their steps show. A table has for each of its points a list of sets, one a component: each
-    task, each of its own event bits, the lowest first, and each alarm."""
+    task, each of its own event bits, the lowest first, each alarm, and, where routines nest, each source."""
 
     def __init__(self, app):
         self.app, self.kernel = app, Kernel(app)
@@ -34,9 +37,10 @@ class TableSteps:
     # Values and states.
 
     def values_of(self, state):
-        """The values of a state's components: tasks without their offsets, event bits, and whether alarms are armed."""
+        """The values of a state's components: tasks without their offsets, event bits, whether alarms are armed, and routines as tasks."""
         tasks = [task._replace(offset=0) if isinstance(task, Live) else task for task in state.tasks]
-        return tasks + [state.masks[t] >> bit & 1 for t, bit in self.bits] + [alarm is not None for alarm in state.alarms]
+        sources = [routine if routine == OUT else routine._replace(offset=0) for routine in state.sources] if opened.has(opened.NESTED) else []
+        return tasks + [state.masks[t] >> bit & 1 for t, bit in self.bits] + [alarm is not None for alarm in state.alarms] + sources
 
     def state_of(self, point, values):
         """A state at a point with these values; what a table doesn't keep is at rest."""
@@ -45,10 +49,15 @@ class TableSteps:
         masks = [0] * count
         for (task, bit), value in zip(self.bits, values[count:]):
             masks[task] |= value << bit
-        alarms = tuple(Armed(0, 0) if armed else None for armed in values[count + len(self.bits):])
-        processor, tasks = self.processor_at(point), tuple(values[:count])
-        state = State(0, processor, tasks, tuple(masks), (0,) * len(app.counters), alarms, frozenset(), ())
-        return state._replace(line=tuple(t for t, task in enumerate(tasks) if isinstance(task, Live) and t != executing(state)))
+        last = count + len(self.bits) + len(app.alarms)
+        alarms = tuple(Armed(0, 0) if armed else None for armed in values[count + len(self.bits):last])
+        processor, sources = self.processor_at(point), tuple(values[last:]) if opened.has(opened.NESTED) else (OUT,) * len(app.sources)
+        if isinstance(processor, Routine):
+            _, block, _, _ = point
+            held = sources[processor.source].held if sources[processor.source] != OUT else ()
+            sources = replaced(sources, processor.source, In(block, 0, held))
+        state = State(0, processor, tuple(values[:count]), tuple(masks), (0,) * len(app.counters), alarms, frozenset(), (), sources)
+        return state._replace(line=line_of(state))
 
     def processor_at(self, point):
         if point in (HALT_POINT, IDLE_POINT):
@@ -57,25 +66,20 @@ class TableSteps:
         owner = self.app.blocks[block].owner
         if not is_routine:
             return Running(self.app.task_number[owner.name])
-        mark = '%' if owner.kind == 'TICK' else '@'
-        source = next(k for k, s in enumerate(self.app.sources) if (s.mark, s.name) == (mark, owner.name))
-        return Routine(source, block, 0, None if over == NOBODY else over)
+        return Routine(self.app.source_of(block), None if over == NOBODY else over)
 
     def steps_of(self, state):
         """The steps of a state with each choice of what a table doesn't keep."""
         if state.processor == HALTED:
             return []
-        running = [] if state.processor == IDLE else [chosen for lined in self.lined(state) for chosen in self.chosen(lined)]
-        found = [self.kernel.run(*chosen) for chosen in running]
-        if not isinstance(state.processor, Routine) and not self.kernel.is_locked(state):
-            found += [self.kernel.run(state._replace(latched=frozenset([s])), False) for s in range(len(self.app.sources))]
-        return found
+        found = [] if state.processor == IDLE else [self.kernel.run(*chosen) for s in self.with_lines(state) for chosen in self.chosen(s)]
+        requested = (state._replace(latched=frozenset([s])) for s in range(len(self.app.sources)))
+        return found + [self.kernel.run(s, False) for s in requested if self.kernel.arriving(s) is not None]
 
-    def lined(self, state):
-        """The state with the line as it may be otherwise: each ready task that shares its priority with another one comes first."""
-        priorities = [self.kernel.priority(state, t) for t in state.line]
-        firsts = [t for t, priority in zip(state.line, priorities) if priorities.count(priority) > 1]
-        return [state._replace(line=(t,) + tuple(u for u in state.line if u != t)) for t in firsts] or [state]
+    def with_lines(self, state):
+        """The state with each task first in the line that has a place there, where the line may matter."""
+        firsts = dict.fromkeys(state.line) if self.app.is_site(place_of(state)[0]) else []
+        return [state._replace(line=(t,) + without_first(state.line, t)) for t in firsts] or [state]
 
     def chosen(self, state):
         """The state with its offset, and with the alarm that may expire here, as they may be otherwise; each with a choice."""
@@ -100,6 +104,15 @@ class TableSteps:
         if len(point) > 1 and point[1] in self.shown and step.shown not in (ARRIVAL, NOTHING):
             self.shown[point[1]].add(step.shown)
             self.noted[point[1]].add(step.status)
+
+
+def line_of(state):
+    """A line with the places that are due in a state: those of each task in turn."""
+    found = []
+    for task, activity in enumerate(state.tasks):
+        if isinstance(activity, Live):
+            found += [task] * (activity.further + (task != executing(state)))
+    return tuple(found)
 
 
 class Analysis(TableSteps):
@@ -151,9 +164,15 @@ def form(app, shown):
 
 def heights(app, bits):
     """How many values an entry has at most."""
-    stacks = sum(len(list(itertools.permutations(range(len(app.resources)), k))) for k in range(len(app.resources) + 1))
-    blocks = [len(app.blocks_of_task(t)) for t in range(len(app.tasks))]
-    return sum(1 + count + count * stacks for count in blocks) + 2 * bits + 2 * len(app.alarms)
+    count = len(app.takable())
+    stacks = sum(math.perm(count, k) for k in range(count + 1))
+    found = 2 * bits + 2 * len(app.alarms)
+    for number, task in enumerate(app.tasks):
+        blocks = len(app.blocks_of_task(number))
+        found += 1 + blocks + blocks * stacks * task.activation * (1 if task.internal is None else 2)
+    for number, source in enumerate(app.sources if opened.has(opened.NESTED) else []):
+        found += 1 + len(app.blocks_of_source(number)) * (stacks if source.mark == '@' else 1)
+    return found
 
 
 def show(app, analysis=None):

@@ -13,6 +13,7 @@ import sys
 import lint_code
 import lint_oil
 import oil
+import rules
 import task_code
 from application import joined
 from given import Parser, contents, run
@@ -53,6 +54,7 @@ class Texts:
     def __init__(self, oil_text, code_text, names):
         reader = oil.OilReader(oil_text, names[0])
         self.objects, self.declared = reader.read(), reader.declared
+        rules.judge_objects(self.objects, names[0])
         self.system = oil.SystemMaker(self.objects).make()
         self.code = lint_code.Code(joined(self.system, task_code.blocks_of(code_text, names[1]), names))
 

@@ -1,5 +1,6 @@
 """What lint.py finds in task code, read with its OIL text: calls that are refused each time, ends that are reached by accident, and
 objects that no call uses."""
+import opened
 from flow import REFUSED_WHILE_HELD, held_at, is_above, leads_to, ways
 
 FOR_TASKS_ALONE = {'TerminateTask', 'ChainTask', 'Schedule', 'WaitEvent', 'ClearEvent'}
@@ -78,19 +79,20 @@ def unnamed_resources(code):
 
 def own_activations(code):
     for block in code.calls('ActivateTask'):
-        if block.owner == ('TASK', block.arguments[0][0]):
+        if block.owner == ('TASK', block.arguments[0][0]) and code.tasks[block.owner.name].activation == 1:
             yield block.line, '%s: a task that runs takes no second activation (E_OS_LIMIT)' % block.text
 
 
 def held_resources(code):
     """Where the text shows that a resource is held too long, taken twice, or given back in another order."""
-    for task, first in zip(code.app.tasks, code.app.first):
+    routines = [(source.name, source.first) for source in code.app.sources if source.mark == '@']
+    for name, first in [(task.name, first) for task, first in zip(code.app.tasks, code.app.first)] + routines:
         for number, stacks in sorted(held_at(ways(code.app, first)).items()):
             block = code.app.blocks[number]
             for stack in sorted(stacks):
                 told = fault_of_held(block, stack)
-                if told:
-                    yield block.line, '%s: %s' % (block.text if block.word != 'end' else 'the end of ' + task.name, told)
+                if told and not (block.owner.kind == 'ISR' and block.word in FOR_TASKS_ALONE):
+                    yield block.line, '%s: %s' % (block.text if block.word != 'end' else 'the end of ' + name, told)
                     break
 
 
@@ -126,12 +128,13 @@ def dead_statements(code):
 
 def endless_tasks(code):
     """Tasks that come to a loop for ever in which nothing waits, though others are below them."""
-    lowest = min((task.priority for task in code.app.tasks), default=0)
     for task, first in zip(code.app.tasks, code.app.first):
+        others = [other.priority for other in code.app.tasks if other is not task and other.priority <= task.priority]
+        which = 'below it' if task.priority not in others else 'of its priority or below'
         for number in sorted({number for number, _ in ways(code.app, first)}):
             inside = {b for b, _ in ways(code.app, number)}
-            if code.app.blocks[number].word == 'loop' and task.priority > lowest and not any(gives_up(code.app.blocks[b]) for b in inside):
-                yield code.app.blocks[number].line, 'task %s never gives up the processor from here on: no task below it ever runs' % task.name
+            if code.app.blocks[number].word == 'loop' and others and not any(gives_up(code.app.blocks[b]) for b in inside):
+                yield code.app.blocks[number].line, 'task %s never gives up the processor from here on: no task %s ever runs' % (task.name, which)
                 break
 
 
@@ -141,7 +144,8 @@ def endless_routines(code):
         reached = sorted({number for number, _ in ways(code.app, source.first)})
         for number in reached if source.mark == '@' else []:
             if not any(code.app.blocks[b].word == 'end' for b, _ in ways(code.app, number)) and code.app.blocks[number].word == 'loop':
-                yield code.app.blocks[number].line, 'the routine %s never ends from here on: nothing else ever runs' % source.name
+                what = 'no task and no routine that is not above it' if opened.has(opened.NESTED) else 'nothing else'
+                yield code.app.blocks[number].line, 'the routine %s never ends from here on: %s ever runs' % (source.name, what)
                 break
 
 
@@ -191,7 +195,11 @@ def unused_objects(code):
             yield alarm.line, 'alarm %s is never set' % alarm.name
     taken = code.named_by('GetResource')
     for resource in app.resources:
-        if resource.name not in taken and resource.line:
+        if resource.is_internal:
+            names = [task for task in app.tasks if task.internal == resource.name]
+            if len(names) < 2:
+                yield resource.line, '%s names the INTERNAL resource %s, so it keeps no task away' % ('one task alone' if names else 'no task', resource.name)
+        elif resource.name not in taken and resource.line:
             yield resource.line, 'no task takes the resource %s' % resource.name
 
 

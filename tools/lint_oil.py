@@ -2,6 +2,7 @@
 import difflib
 
 import oil
+import opened
 
 KNOWN = {
     'OS': {'STATUS', 'USERESSCHEDULER'} | set(oil.HOOKS),
@@ -67,10 +68,15 @@ def nearest(name, known):
     return ': %s is known' % close[0] if close else ''
 
 
+def known_of(kind):
+    """The attributes that have an effect; the priority of a routine has one from where routines nest on."""
+    return KNOWN.get(kind, set()) | ({'PRIORITY'} if kind == 'ISR' and opened.has(opened.NESTED) else set())
+
+
 def passed_over(objects, declared):
     """Attributes that have no effect since the table doesn't have them; those that IMPLEMENTATION declares are a vendor's."""
     for found in objects:
-        known, vendors = KNOWN.get(found.kind, set()), declared.get(found.kind, set())
+        known, vendors = known_of(found.kind), declared.get(found.kind, set())
         for attribute in found.attributes:
             if attribute.name in known:
                 inner = WITHIN.get((found.kind, attribute.name, attribute.value), set())

@@ -22,7 +22,7 @@ import run as bench
 from image import name, number
 from image_reader import read_image
 from points import block_of, executing_at, points_of
-from table_bytes import LIVE, MAGIC, MOST, SUSPENDED, value_bytes
+from table_bytes import LIVE, MOST, SUSPENDED, magic, value_bytes
 
 SECONDS, MEGABYTES = 2.0, 1024.0
 STOPPED_AFTER = 60
@@ -82,7 +82,7 @@ def row(app, point, first=None):
 def table_of(app, rows, most):
     """The bytes of a table: rows at the first points, as many as fit, and none at the others."""
     points = points_of(app)
-    parts, left = [MAGIC], most - len(MAGIC) - len(points)
+    parts, left = [magic()], most - len(magic()) - len(points)
     for found in rows:
         left -= len(found)
         if left < 0:

@@ -7,10 +7,9 @@ import findings
 import graph
 from drawing import FAINT, INK, LINE
 from given import Wrong
-from image import ANY, NONE_NOTED
 from image import known as known_byte
 from least_table import MOST_ASKED, Analysis, form
-from states import STATUSES
+from model import known_word
 
 Facts = namedtuple('Facts', 'forms known told')
 """What is known of blocks by number: the form and the known status of each site, and what `report` tells, `dead` or `free`."""
@@ -28,10 +27,6 @@ def facts_of_model(app):
     forms = {block: form(app, shown) for block, shown in analysis.shown.items()}
     known = {block: known_word(known_byte(noted)[0]) for block, noted in analysis.noted.items()}
     return Facts(forms, known, told_in(findings.report(app, analysis)))
-
-
-def known_word(number):
-    return {ANY: 'any', NONE_NOTED: 'none'}.get(number) or STATUSES[number]
 
 
 def facts_of_texts(show, info, report, names):

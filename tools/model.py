@@ -6,10 +6,14 @@ of all states that a table admits, one by one. So all but `trace` is for small a
 taken to be without fault. The files examples/*/*.show are its answers. `certify` stores an image with the least table, as a certificate of it,
 and `check` says whether a table certifies an image: `yes`, or the first fault of its bytes (status 11), or why not (status 12). `replay` prints an
 image's trace, and `record` the points that it comes to (with status 8 where it traps); `watch` says whether the application may come to the points of a text:
-`quiet N`, or the first fault of its lines (status 14), or the first point that can't come (status 15). `report` prints what can't happen.
+`quiet N`, or the first fault of its lines (status 14), or the first point that can't come (status 15). `report` prints what can't happen, and
+`info` what an image has. What later parts of the language bring is refused by its rule (status 1) as long as the program refuses it;
+`--later nested` opens what it will have.
 
     tools/model.py trace a.oil a.code OSDEFAULTAPPMODE a.events
     tools/model.py show a.oil a.code
+    tools/model.py --later nested show a.oil a.code
+    tools/model.py info a.image
     tools/model.py report a.oil a.code
     tools/model.py build a.oil a.code a.image
     tools/model.py certify a.oil a.code a.image a.table
@@ -20,11 +24,16 @@ image's trace, and `record` the points that it comes to (with status 8 where it 
 """
 import sys
 
+import opened
 from given import Parser, Wrong, contents, data, run
 from kernel import Kernel
+from rules import Refused
 from services import letter
-from states import HALTED, IDLE, SUSPENDED, Live, Routine
+from states import HALTED, IDLE, OUT, STATUSES, SUSPENDED, Live, Routine
 from texts import application
+
+REFUSED = 1
+"""The status of texts that violate a rule."""
 
 
 def who(app, state):
@@ -39,14 +48,27 @@ def who(app, state):
 
 def shown_task(app, state, number):
     task, activity = app.tasks[number], state.tasks[number]
+    further = '*%d' % activity.further if isinstance(activity, Live) and activity.further else ''
     events = ':%x' % state.masks[number] if task.own and activity != SUSPENDED else ''
-    held = activity.held if isinstance(activity, Live) else ()
-    return '%s=%s%s%s' % (task.name, letter(state, number), events, ''.join('+' + app.resources[r].name for r in held))
+    return '%s=%s%s%s%s' % (task.name, letter(state, number), further, events, shown_resources(app, app.occupied(number, activity)))
+
+
+def shown_resources(app, held):
+    return ''.join('+' + app.resources[r].name for r in held)
+
+
+def shown_routines(app, state):
+    """The routines that began and haven't ended, each with what it holds; that at the processor only where it holds something."""
+    top = state.processor.source if isinstance(state.processor, Routine) else None
+    for number, (source, routine) in enumerate(zip(app.sources, state.sources)):
+        if routine != OUT and (number != top or routine.held):
+            yield source.mark + source.name + shown_resources(app, routine.held)
 
 
 def line(app, number, step):
     """A line of the trace: the state after a step, and what it noted."""
     words = [str(number), who(app, step.state)] + [shown_task(app, step.state, t) for t in range(len(app.tasks))]
+    words += shown_routines(app, step.state)
     words += ['!' + step.status] if step.status else []
     words += ['^Error'] if 'Error' in step.hooks else []
     words += ['=' + step.value] if step.value is not None else []
@@ -134,13 +156,39 @@ def trace(app, mode, name):
         sys.stdout.write(line(app, number, step) + '\n')
 
 
+def info(stored):
+    """What `info` prints of an image."""
+    app, forms = stored.app, {block: image_form(stored, block) for block in stored.app.sites()}
+    counts = [(word, sum(1 for form in forms.values() if form.split(' ')[0] == word)) for word in ('never', 'stay', 'direct', 'general')]
+    lines = ['version %d blocks %d sites %d %s' % (stored.version, len(app.blocks), len(forms), ' '.join('%s %d' % pair for pair in counts))]
+    for block, form in forms.items():
+        known = ' known ' + known_word(stored.known[block]) if stored.version > 1 else ''
+        lines.append('site b%d line %d %s%s' % (block, app.blocks[block].line, form, known))
+    return ''.join(text + '\n' for text in lines)
+
+
+def image_form(stored, block):
+    """The form of a site in an image, as `show` has it."""
+    import image
+    form = stored.forms[block]
+    word = {image.NEVER: 'never', image.STAY: 'stay', image.GENERAL: 'general'}.get(form)
+    return word or 'direct ' + ('-' if form[1] == image.NOBODY else stored.app.tasks[form[1]].name)
+
+
+def known_word(number):
+    """What is known of a site's status, by its byte."""
+    from image import ANY, NONE_NOTED
+    return {ANY: 'any', NONE_NOTED: 'none'}.get(number) or STATUSES[number]
+
+
 COMMANDS = {'trace': ['OIL', 'CODE', 'MODE', 'EVENTS'], 'show': ['OIL', 'CODE'], 'report': ['OIL', 'CODE'], 'build': ['OIL', 'CODE', 'IMAGE'],
             'certify': ['OIL', 'CODE', 'IMAGE', 'TABLE'], 'check': ['IMAGE', 'TABLE'], 'replay': ['IMAGE', 'MODE', 'EVENTS'],
-            'record': ['IMAGE', 'MODE', 'EVENTS'], 'watch': ['OIL', 'CODE', 'RECORD']}
+            'record': ['IMAGE', 'MODE', 'EVENTS'], 'watch': ['OIL', 'CODE', 'RECORD'], 'info': ['IMAGE']}
 
 
 def arguments():
     parser = Parser(__doc__)
+    parser.add_argument('--later', default='', metavar='PARTS', help='parts of the language to open: ' + ', '.join(opened.LATER))
     verbs = parser.add_subparsers(dest='verb', metavar='|'.join(COMMANDS), required=True)
     for verb, words in COMMANDS.items():
         one = verbs.add_parser(verb)
@@ -151,11 +199,24 @@ def arguments():
 
 def main():
     words = arguments()
+    parts = words.later.split(',') if words.later else []
+    if not set(parts) <= set(opened.LATER):
+        raise Wrong('--later takes %s' % ', '.join(opened.LATER))
+    opened.OPENED.update(parts)
     if words.verb == 'check':
         return check(words.image, words.table)
     if words.verb in ('replay', 'record'):
         return play_image(words.verb, words.image, words.mode, words.events)
-    return done(words, application(words))
+    if words.verb == 'info':
+        from image_reader import read_image
+        sys.stdout.write(info(read_image(data(words.image), words.image)))
+        return 0
+    try:
+        app = application(words)
+    except Refused as refusal:
+        sys.stderr.write('%s\n' % refusal)
+        return REFUSED
+    return done(words, app)
 
 
 def done(words, app):

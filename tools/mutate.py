@@ -21,6 +21,7 @@ import tempfile
 import time
 
 import given
+import opened
 
 HERE = os.path.dirname(os.path.abspath(__file__))
 EXAMPLES = os.path.join(os.path.dirname(HERE), 'examples')
@@ -206,7 +207,7 @@ def is_refusal(trial, answer, form, most):
 def load_examples():
     """The texts of the examples, by name: OIL, code, events."""
     found = {}
-    for name in sorted(os.listdir(EXAMPLES)):
+    for name in (n for n in sorted(os.listdir(EXAMPLES)) if opened.is_ready(os.path.join(EXAMPLES, n))):
         texts = []
         for end in ('oil', 'code', 'events'):
             with open(os.path.join(EXAMPLES, name, '%s.%s' % (name, end)), 'rb') as file:

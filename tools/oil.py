@@ -2,6 +2,7 @@
 reads it; attributes that the guide's table doesn't have are kept among the objects, and the system leaves them out."""
 from collections import namedtuple
 
+import opened
 from tokens import Cursor, number_of
 
 Object = namedtuple('Object', 'kind name line attributes')
@@ -12,17 +13,19 @@ Attribute = namedtuple('Attribute', 'name value line attributes')
 System = namedtuple('System', 'hooks modes tasks isrs counters alarms events resources')
 """What a text declares: the hooks that are TRUE, the names of the modes, and the other objects by their names, in order."""
 
-Task = namedtuple('Task', 'name priority is_full events own resources modes line')
-"""A task: its events by name, and their bits together (`own`); the modes in which it is started, by number."""
+Task = namedtuple('Task', 'name priority is_full events own resources modes line activation internal', defaults=(1, None))
+"""A task: its events by name, and their bits together (`own`); the modes in which it is started, by number; how many activations it has at
+most, and the name of its INTERNAL resource, or None."""
 
-Isr = namedtuple('Isr', 'name category line')
+Isr = namedtuple('Isr', 'name category line priority resources', defaults=(0, ()))
 
 Counter = namedtuple('Counter', 'name most least_cycle line')
 
 Alarm = namedtuple('Alarm', 'name counter task event mask modes time cycle line')
 """An alarm: the event is None where the task is activated, and the mask 0 then."""
 
-Resource = namedtuple('Resource', 'name ceiling line')
+Resource = namedtuple('Resource', 'name ceiling line is_internal interrupt_ceiling', defaults=(False, 0))
+"""A resource: its ceiling among tasks, and its ceiling among interrupt routines, which is 0 where none names it."""
 
 HOOKS = {'STARTUPHOOK': 'Startup', 'SHUTDOWNHOOK': 'Shutdown', 'ERRORHOOK': 'Error', 'PRETASKHOOK': 'PreTask',
          'POSTTASKHOOK': 'PostTask'}
@@ -124,12 +127,13 @@ class SystemMaker:
         os = self.of_kind('OS')[0] if self.of_kind('OS') else Object('OS', '', 0, [])
         self.modes = [DEFAULT_MODE] + [o.name for o in self.of_kind('APPMODE') if o.name != DEFAULT_MODE]
         self.masks = masks_of(self.of_kind('EVENT'))
+        self.internal = {o.name for o in self.of_kind('RESOURCE') if value(o.attributes, 'RESOURCEPROPERTY') == 'INTERNAL'}
         hooks = [shown for word, shown in HOOKS.items() if value(os.attributes, word) == 'TRUE']
         named = {o.name: self.task(o) for o in self.of_kind('TASK')}
         counters = {o.name: counter_of(o) for o in self.of_kind('COUNTER')}
-        isrs = {o.name: Isr(o.name, number_of(value(o.attributes, 'CATEGORY', '2')), o.line) for o in self.of_kind('ISR')}
+        isrs = {o.name: isr_of(o) for o in self.of_kind('ISR')}
         alarms = {o.name: self.alarm(o) for o in self.of_kind('ALARM')}
-        resources = self.resources(named.values(), value(os.attributes, 'USERESSCHEDULER', 'TRUE') == 'TRUE')
+        resources = self.resources(named.values(), isrs.values(), value(os.attributes, 'USERESSCHEDULER', 'TRUE') == 'TRUE')
         return System(hooks, self.modes, named, isrs, counters, alarms, self.masks, resources)
 
     def started_in(self, autostart):
@@ -145,7 +149,8 @@ class SystemMaker:
         for event in values(a, 'EVENT'):
             own |= self.masks.get(event, 0)
         return Task(found.name, number_of(value(a, 'PRIORITY', '0')) or 0, value(a, 'SCHEDULE', 'FULL') == 'FULL', values(a, 'EVENT'), own,
-                    values(a, 'RESOURCE'), self.started_in(first(a, 'AUTOSTART', 'FALSE')), found.line)
+                    values(a, 'RESOURCE'), self.started_in(first(a, 'AUTOSTART', 'FALSE')), found.line,
+                    number_of(value(a, 'ACTIVATION', '1')) or 1, next((r for r in values(a, 'RESOURCE') if r in self.internal), None))
 
     def alarm(self, found):
         a = found.attributes
@@ -156,14 +161,23 @@ class SystemMaker:
         return Alarm(found.name, value(a, 'COUNTER'), value(action.attributes, 'TASK'), event, self.masks.get(event, 0), modes, time,
                      cycle, found.line)
 
-    def resources(self, tasks, has_scheduler):
+    def resources(self, tasks, isrs, has_scheduler):
         found = {}
         for o in self.of_kind('RESOURCE'):
             if o.name != SCHEDULER or not has_scheduler:
-                found[o.name] = Resource(o.name, ceiling([t for t in tasks if o.name in t.resources], 0), o.line)
+                above = max((1 + i.priority for i in isrs if i.category == 2 and o.name in i.resources), default=0)
+                below = ceiling(tasks, 1) if above else ceiling([t for t in tasks if o.name in t.resources], 0)
+                found[o.name] = Resource(o.name, below, o.line, o.name in self.internal, above)
         if has_scheduler:
             found[SCHEDULER] = Resource(SCHEDULER, ceiling(tasks, 1), 0)
         return found
+
+
+def isr_of(found):
+    """An interrupt routine; priorities and resources count from where routines nest on."""
+    a, is_later = found.attributes, opened.has(opened.NESTED)
+    category = number_of(value(a, 'CATEGORY', '2'))
+    return Isr(found.name, category, found.line, (number_of(value(a, 'PRIORITY', '0')) or 0) if is_later else 0, values(a, 'RESOURCE') if is_later else [])
 
 
 def ceiling(tasks, where_none):

@@ -1,8 +1,8 @@
-"""A trace as the JSON text that ui.perfetto.dev and chrome://tracing read: one event is a microsecond. The processor, each routine, each
-task and what it holds are tracks; statuses and hooks are marks on the processor's."""
+"""A trace as the JSON text that ui.perfetto.dev and chrome://tracing read: one event is a microsecond. The processor, each task and what it
+holds, each routine that waits below another one and what it holds are tracks; statuses and hooks are marks on the processor's."""
 import json
 
-from timeline import STATES
+from timeline import STATES, waits_below
 
 
 class Tracks:
@@ -24,8 +24,12 @@ class Tracks:
 def shown(line):
     """What each track shows at a line; None where it shows nothing."""
     found = {'processor': {'-': 'idle', '#': 'halted'}.get(line.who, line.who)}
+    for name, held in line.routines.items():
+        found[name] = 'waits' if waits_below(line, name) else None
+        found['%s holds' % name] = '+'.join(held) or None
     for name, task in line.tasks.items():
         state = None if task.state == 'S' else 'interrupted' if task.state == 'R' and line.who != name else STATES[task.state]
+        state = state if state is None or not task.further else '%s, %d more' % (state, task.further)
         found['task ' + name] = state if state is None or task.events is None else '%s, events %s' % (state, task.events)
         found['%s holds' % name] = '+'.join(task.held) or None
     return found
@@ -56,7 +60,8 @@ def dump(trace, requests):
 def changes(tracks, open_, line):
     """What begins, ends and is marked at a line."""
     now = shown(line)
-    for name, value in now.items():
+    for name in [*now, *(name for name in open_ if name not in now)]:
+        value = now.get(name)
         begun = open_.get(name)
         if begun is not None and begun[0] != value:
             yield slice_of(tracks.numbers[name], begun, line.number)

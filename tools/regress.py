@@ -4,7 +4,8 @@
 An application is a folder with one .oil file and one .code file. Each .events file there is a run, whose trace is to be the .trace file of
 the same name; `# mode: NAME` in its first line says in which mode (OSDEFAULTAPPMODE else). A .show file of the OIL file's name is to be
 what `show` prints, a .report file what `report` prints. Of each application `build` has to accept the texts; each run is played by `replay` of
-the image and by `trace`, and its record has to be quiet, with a point for each line of the trace.
+the image and by `trace`, and its record has to be quiet, with a point for each line of the trace. An application is left out where a file
+`later` says that it needs a part of the language which the program doesn't have yet.
 
     tools/regress.py examples
     tools/regress.py --junit report.xml --program crates/osekfit/out/osekfit examples
@@ -21,6 +22,7 @@ import time
 from collections import namedtuple
 from xml.sax.saxutils import escape, quoteattr
 
+import opened
 import program
 from given import Parser, Wrong, contents, run
 from oil import DEFAULT_MODE
@@ -44,7 +46,7 @@ def applications(folder):
     """The folders at or below this one that have an OIL file and task code, in order."""
     if not os.path.isdir(folder):
         raise Wrong('%s: no folder' % folder)
-    found = [at for at, _, names in os.walk(folder) if {'.oil', '.code'} <= {os.path.splitext(n)[1] for n in names}]
+    found = [at for at, _, names in os.walk(folder) if {'.oil', '.code'} <= {os.path.splitext(n)[1] for n in names} and opened.is_ready(at)]
     if not found:
         raise Wrong('%s: no application' % folder)
     return sorted(found)

@@ -1,7 +1,7 @@
 """The services of the model of kernel.py, in the order of ISO 17356-3. Each one first has its refusals in the order in which they are
 tested: a pair of a condition and a status."""
-from states import HALTED, IDLE, LEFT, MAYBE, NO, OK, SUSPENDED, Armed, Effect, Live, Routine, Running, Waiting, executing, \
-    first_in_line, last_in_line, replaced, with_alarm, with_task
+from states import HALTED, IDLE, LEFT, MAYBE, NO, OK, OUT, SUSPENDED, Armed, Effect, Live, Routine, Running, Waiting, executing, \
+    replaced, with_alarm, with_source, with_task
 from task_code import LOCKS
 
 
@@ -12,6 +12,7 @@ class Call:
         self.app, self.before, self.moved, self.block = app, before, moved, block
         self.is_routine = isinstance(before.processor, Routine)
         self.caller = None if self.is_routine else before.processor.task
+        self.source = before.processor.source if self.is_routine else None
 
     def caller_task(self):
         return self.app.tasks[self.caller]
@@ -54,12 +55,16 @@ class Call:
 
     def ChainTask(self):
         task = self.task()
-        is_full = task != self.caller and self.before.tasks[task] != SUSPENDED
-        return self.refused([(self.is_routine, 'E_OS_CALLEVEL'), (self.holds(), 'E_OS_RESOURCE'), (is_full, 'E_OS_LIMIT')]) \
+        has_no_room = task != self.caller and is_full(self.app, self.before, task)
+        return self.refused([(self.is_routine, 'E_OS_CALLEVEL'), (self.holds(), 'E_OS_RESOURCE'), (has_no_room, 'E_OS_LIMIT')]) \
             or self.accepted(activated(self.app, self.without_caller(), task)[0], LEFT, None)
 
     def Schedule(self):
-        return self.refused([(self.is_routine, 'E_OS_CALLEVEL'), (self.holds(), 'E_OS_RESOURCE')]) or self.accepted(self.moved, MAYBE)
+        return self.refused([(self.is_routine, 'E_OS_CALLEVEL'), (self.holds(), 'E_OS_RESOURCE')]) or self.accepted(self.outside(), MAYBE)
+
+    def outside(self):
+        """The caller at the next block, without its INTERNAL resource."""
+        return with_task(self.moved, self.caller, self.moved.tasks[self.caller]._replace(inside=False))
 
     def GetTaskID(self):
         task = executing(self.before)
@@ -69,25 +74,35 @@ class Call:
         return self.accepted(self.moved, value=letter(self.before, self.task()))
 
     def without_caller(self):
-        return with_task(self.moved, self.caller, SUSPENDED)._replace(processor=IDLE)
+        return ended(self.app, self.moved, self.caller)
 
     # Resources.
 
     def GetResource(self):
-        resource, held = self.resource(), self.before.tasks[self.caller].held
-        is_taken = any(resource in task.held for task in self.before.tasks if isinstance(task, Live))
+        resource, held = self.resource(), self.held()
+        stacks = [task.held for task in self.before.tasks if isinstance(task, Live)] + [r.held for r in self.before.sources if r != OUT]
+        is_taken = any(resource in stack for stack in stacks)
         return self.refused([(is_taken or self.is_below_caller(resource), 'E_OS_ACCESS')]) \
             or self.accepted(self.holding(held + (resource,)))
 
     def ReleaseResource(self):
-        resource, held = self.resource(), self.before.tasks[self.caller].held
+        resource, held = self.resource(), self.held()
         return self.refused([(self.is_below_caller(resource), 'E_OS_ACCESS'), (held[-1:] != (resource,), 'E_OS_NOFUNC')]) \
             or self.accepted(self.holding(held[:-1]), MAYBE)
 
+    def held(self):
+        return self.before.sources[self.source].held if self.is_routine else self.before.tasks[self.caller].held
+
     def is_below_caller(self, resource):
-        return self.app.resources[resource].ceiling < 2 * self.caller_task().priority
+        """Whether the caller's own priority is above a resource's ceiling: a routine's, above its interrupt ceiling."""
+        found = self.app.resources[resource]
+        if self.is_routine:
+            return found.interrupt_ceiling < self.app.sources[self.source].priority + 1
+        return found.ceiling < 2 * self.caller_task().priority
 
     def holding(self, held):
+        if self.is_routine:
+            return with_source(self.moved, self.source, self.moved.sources[self.source]._replace(held=held))
         return with_task(self.moved, self.caller, self.moved.tasks[self.caller]._replace(held=held))
 
     # Events.
@@ -156,7 +171,9 @@ class Call:
         return self.accepted(self.moved, status=None, value=self.app.modes[self.before.mode])
 
     def ShutdownOS(self):
-        return Effect(first_in_line(self.moved)._replace(processor=HALTED), NO, None, None, True)
+        task, line = executing(self.moved), self.moved.line
+        halted = self.moved._replace(processor=HALTED, line=line if task is None else (task,) + line, sources=(OUT,) * len(self.app.sources))
+        return Effect(halted, NO, None, None, True)
 
 
 def service_effect(app, before, moved, block):
@@ -168,10 +185,30 @@ def service_effect(app, before, moved, block):
 
 def activated(app, state, task):
     """The activation of a task: the state after it, its status, and whether it was one."""
-    if state.tasks[task] != SUSPENDED:
+    if is_full(app, state, task):
         return state, 'E_OS_LIMIT', False
-    live = last_in_line(with_task(state, task, Live(app.first[task], 0, ())), task)
+    state, activity = in_line(state, task), state.tasks[task]
+    if activity != SUSPENDED:
+        return with_task(state, task, activity._replace(further=activity.further + 1)), OK, True
+    live = with_task(state, task, Live(app.first[task], 0, ()))
     return live._replace(masks=replaced(state.masks, task, 0)), OK, True
+
+
+def is_full(app, state, task):
+    """Whether a task takes no activation more; one that waits takes none."""
+    activity = state.tasks[task]
+    return isinstance(activity, Waiting) or isinstance(activity, Live) and activity.further + 1 >= app.tasks[task].activation
+
+
+def ended(app, state, task):
+    """The end of the task that has the processor: by its next activation it is ready anew, which has its place in the line since it came."""
+    further = state.tasks[task].further
+    return with_task(state, task, Live(app.first[task], 0, (), further - 1) if further else SUSPENDED)._replace(processor=IDLE)
+
+
+def in_line(state, task):
+    """The state with a last place in the line for a task."""
+    return state._replace(line=state.line + (task,))
 
 
 def event_set(app, state, task, mask):
@@ -183,7 +220,7 @@ def event_set(app, state, task, mask):
     activity = state.tasks[task]
     if not isinstance(activity, Waiting) or not awaited(app, activity.block) & mask & own:
         return after, OK, False
-    return last_in_line(with_task(after, task, Live(app.blocks[activity.block].next, 0, ())), task), OK, True
+    return with_task(in_line(after, task), task, Live(app.blocks[activity.block].next, 0, ())), OK, True
 
 
 def awaited(app, block):

@@ -6,7 +6,7 @@ import heapq
 from collections import namedtuple
 
 from kernel import Kernel
-from states import HALTED, IDLE, Routine, at_place, place_of
+from states import HALTED, IDLE, at_place, place_of
 
 SiteRun = namedtuple('SiteRun', 'mode events')
 """A run from the start in a mode: its events, each with how often it comes. The last one is the site's."""
@@ -51,10 +51,10 @@ class Search:
             return
         if state.processor != IDLE:
             yield from self.instructions(state)
-        if not isinstance(state.processor, Routine) and not self.kernel.is_locked(state):
-            for number, source in enumerate(self.app.sources):
-                event = ('irq ' if source.mark == '@' else 'tick ') + source.name
-                yield Move(event, 1, self.kernel.run(state._replace(latched=frozenset([number])), False))
+        for number, source in enumerate(self.app.sources):
+            requested = state._replace(latched=frozenset([number]))
+            if self.kernel.arriving(requested) is not None:
+                yield Move(('irq ' if source.mark == '@' else 'tick ') + source.name, 1, self.kernel.run(requested, False))
 
     def instructions(self, state):
         number, _ = place_of(state)

@@ -1,15 +1,14 @@
 """The bytes of a certificate's table, written and read as the guide has them: a second reader beside the program's.
 
 A table is a dictionary: for each point with an entry, a list of sets, one a component. These are the tasks, each task's own event bits, the
-lowest first, and the alarms. A task's set is a list of values in the order of their bytes, and a value is the tuple of its fields; the set
-of a bit or an alarm is a list of 0 (not set, idle) and 1 (set, armed)."""
+lowest first, the alarms, and, where routines nest, the sources. The set of a task or a source is a list of values in the order of their bytes,
+and a value is the tuple of its fields; the set of a bit or an alarm is a list of 0 (not set, idle) and 1 (set, armed)."""
 from collections import namedtuple
 
+import opened
 from fields import Cut, Fields
 from image import number
 from points import block_of, executing_at, points_of
-
-MAGIC = b'OSEKTAB\1'
 
 MOST = 16 * 1024 * 1024
 """How many bytes a table has at most."""
@@ -19,7 +18,13 @@ SUSPENDED, LIVE, WAITING = 0, 1, 2
 many resources it holds, and these, the first taken first; behind WAITING stands its block."""
 
 HELD = 5
-"""The place of the first resource among a value's fields."""
+"""The place of the first resource among the fields of a task's value."""
+
+OUT, IN = 0, 1
+"""The first field of a source's value. Behind IN stand the block of its routine, how many resources it holds, and these, the first taken first."""
+
+ROUTINE_HELD = 3
+"""The place of the first resource among the fields of a source's value."""
 
 RULES = {
     'K1': 'the bytes end early',
@@ -39,17 +44,23 @@ class Fault(Exception):
         self.rule, self.offset = rule, offset
 
 
+def magic():
+    """The first eight bytes: the last one is the version of tables, which is 2 where these have routines."""
+    return b'OSEKTAB\2' if opened.has(opened.NESTED) else b'OSEKTAB\1'
+
+
 # Writing.
 
 
 def spelled(app, table):
     """The bytes of a table."""
-    return MAGIC + b''.join(b'\1' + entry_bytes(app, table[p]) if p in table else b'\0' for p in points_of(app))
+    return magic() + b''.join(b'\1' + entry_bytes(app, table[p]) if p in table else b'\0' for p in points_of(app))
 
 
 def entry_bytes(app, sets):
-    tasks = len(app.tasks)
-    return b''.join(listed(values) for values in sets[:tasks]) + bytes(sum(1 << v for v in values) for values in sets[tasks:])
+    tasks, last = len(app.tasks), len(app.tasks) + len(app.own_bits()) + len(app.alarms)
+    flags = bytes(sum(1 << v for v in values) for values in sets[tasks:last])
+    return b''.join(map(listed, sets[:tasks])) + flags + b''.join(map(listed, sets[last:]))
 
 
 def listed(values):
@@ -64,26 +75,41 @@ def value_bytes(fields):
 # Reading.
 
 
-Shape = namedtuple('Shape', 'tags live waiting resources')
-"""What a value of a task may be at a point: its first field, the blocks of a live and of a waiting one, and the resources that there are."""
+Shape = namedtuple('Shape', 'tags live waiting further inside resources')
+"""What a value of a task may be at a point: its first field, the blocks of a live and of a waiting one, how many further activations it may
+have, whether it may be inside its INTERNAL resource (1) or not (0), and the resources that may be taken."""
+
+RoutineShape = namedtuple('RoutineShape', 'tags blocks resources')
+"""What a value of a source may be at a point: its first field, the blocks, and the resources that its routine may take."""
 
 
 class Shapes:
-    """The shapes of an application's tasks."""
+    """The shapes of an application's tasks and sources."""
 
     def __init__(self, app):
-        self.app, self.resources = app, range(len(app.resources))
+        self.app, self.resources = app, app.takable()
         self.blocks = [app.blocks_of_task(t) for t in range(len(app.tasks))]
+        self.routines = [app.blocks_of_source(s) for s in range(len(app.sources))]
         waits = [[b for b in blocks if app.blocks[b].word == 'WaitEvent'] for blocks in self.blocks]
         self.waiting = [blocks if task.own else [] for task, blocks in zip(app.tasks, waits)]
 
     def at(self, point, task):
         """A task that has the processor here, or is interrupted, is live: at this point's block where that is its own."""
+        further, has_internal = range(self.app.tasks[task].activation), self.app.internal[task] is not None
         if executing_at(self.app, point) == task:
             own = block_of(point) in self.blocks[task]
-            return Shape([LIVE], [block_of(point)] if own else self.blocks[task], [], self.resources)
-        waiting = self.waiting[task]
-        return Shape([SUSPENDED, LIVE] + [WAITING] * bool(waiting), self.blocks[task], waiting, self.resources)
+            return Shape([LIVE], [block_of(point)] if own else self.blocks[task], [], further, [int(has_internal)], self.resources)
+        waiting, inside = self.waiting[task], [0, 1] if has_internal else [0]
+        return Shape([SUSPENDED, LIVE] + [WAITING] * bool(waiting), self.blocks[task], waiting, further, inside, self.resources)
+
+    def source_at(self, point, source):
+        """At a point of its own block a routine has begun; at that of another routine it may have; and at all others none has."""
+        block = block_of(point)
+        resources = self.resources if self.app.sources[source].mark == '@' else []
+        if block in self.routines[source]:
+            return RoutineShape([IN], [block], resources)
+        is_routine = any(block in blocks for blocks in self.routines)
+        return RoutineShape([OUT, IN] if is_routine else [OUT], self.routines[source], resources)
 
 
 class TableReader(Fields):
@@ -92,9 +118,9 @@ class TableReader(Fields):
         self.app, self.shapes, self.flags = app, Shapes(app), len(app.own_bits()) + len(app.alarms)
 
     def read(self):
-        if len(self.data) < len(MAGIC):
+        if len(self.data) < len(magic()):
             raise Fault('K1', 0)
-        if self.take(len(MAGIC)) != MAGIC:
+        if self.take(len(magic())) != magic():
             raise Fault('K2', 0)
         table = {point: self.entry(point) for point in points_of(self.app) if self.one_of(range(2))}
         if self.place < len(self.data):
@@ -109,15 +135,17 @@ class TableReader(Fields):
         return field
 
     def entry(self, point):
-        tasks = [self.values(self.shapes.at(point, task)) for task in range(len(self.app.tasks))]
+        tasks = [self.values(self.value, self.shapes.at(point, task)) for task in range(len(self.app.tasks))]
         flags = [self.one_of(range(1, 4)) for _ in range(self.flags)]
-        return tasks + [[v for v in (0, 1) if found >> v & 1] for found in flags]
+        sources = range(len(self.app.sources)) if opened.has(opened.NESTED) else []
+        routines = [self.values(self.routine, self.shapes.source_at(point, source)) for source in sources]
+        return tasks + [[v for v in (0, 1) if found >> v & 1] for found in flags] + routines
 
-    def values(self, shape):
+    def values(self, read, shape):
         """As many values as are counted, one at least, each above the one before."""
         found = []
         for _ in range(self.one_of(range(1, 2 ** 32), 4)):
-            at, value = self.place, self.value(shape)
+            at, value = self.place, read(shape)
             if found and value <= found[-1]:
                 raise Fault('K4', at)
             found.append(value)
@@ -129,10 +157,18 @@ class TableReader(Fields):
             return (tag,)
         if tag == WAITING:
             return (tag, self.one_of(shape.waiting, 2))
-        fields = [tag, self.one_of(shape.live, 2), self.one_of([0]), self.one_of([0]), self.one_of(range(len(shape.resources) + 1))]
-        for _ in range(fields[-1]):
-            fields.append(self.one_of([r for r in shape.resources if r not in fields[HELD:]]))
-        return tuple(fields)
+        return (tag, self.one_of(shape.live, 2), self.one_of(shape.further), self.one_of(shape.inside)) + self.stack(shape.resources)
+
+    def routine(self, shape):
+        tag = self.one_of(shape.tags)
+        return (tag,) if tag == OUT else (tag, self.one_of(shape.blocks, 2)) + self.stack(shape.resources)
+
+    def stack(self, resources):
+        """How many resources are held, and these, none twice."""
+        held = []
+        for _ in range(self.one_of(range(len(resources) + 1))):
+            held.append(self.one_of([r for r in resources if r not in held]))
+        return (len(held),) + tuple(held)
 
 
 def read_table(app, data):

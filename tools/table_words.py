@@ -1,5 +1,5 @@
 """What a table has at a point, in words: for certificate.py and why.py."""
-from table_bytes import HELD, LIVE, SUSPENDED
+from table_bytes import HELD, LIVE, OUT, ROUTINE_HELD, SUSPENDED
 from points import block_of, executing_at
 
 
@@ -14,8 +14,8 @@ class Wording:
         return 'b%d, line %d' % (block, line) if line else 'b%d' % block
 
     def parts(self, point, sets):
-        """What may be at a point, as pairs of a name and words: tasks and the events of each, then alarms."""
-        count = len(self.app.tasks)
+        """What may be at a point, as pairs of a name and words: tasks and the events of each, then alarms, then routines that began."""
+        count, last = len(self.app.tasks), len(self.app.tasks) + len(self.bits) + len(self.app.alarms)
         for number, task in enumerate(self.app.tasks):
             yield task.name, '%s: %s' % (task.name, self.task(point, number, sets[number]))
             if task.own:
@@ -23,21 +23,39 @@ class Wording:
                 yield task.name, "%s's events: %s" % (task.name, events(own))
         for alarm, values in zip(self.app.alarms, sets[count + len(self.bits):]):
             yield alarm.name, '%s: %s' % (alarm.name, ' or '.join(('idle', 'armed')[v] for v in values))
+        for source, values in zip(self.app.sources, sets[last:]):
+            if list(values) != [(OUT,)]:
+                yield source.name, '%s%s: %s' % (source.mark, source.name, self.routine(point, values))
 
     def task(self, point, number, values):
         """What a task may be doing; values that differ in their block alone are told together."""
         places = {}
         for fields in values:
-            places.setdefault((fields[0],) + fields[HELD:], []).append(fields[1:2])
+            places.setdefault((fields[0],) + fields[2:4] + fields[HELD:], []).append(fields[1:2])
         return ' or '.join(self.doing(point, number, key, [block for found in blocks for block in found]) for key, blocks in places.items())
 
     def doing(self, point, number, key, blocks):
-        tag, held = key[0], key[1:]
+        tag, further, inside, held = key[0], *(key[1:3] or (0, 0)), key[3:]
         if tag == SUSPENDED:
             return 'suspended'
         word = self.live(point, number, blocks) if tag == LIVE else 'waits'
-        word += ' with ' + ' and '.join(self.app.resources[r].name for r in held) if held else ''
+        word += self.holding(((self.app.internal[number],) if inside else ()) + held)
+        word += ', %d more activation%s' % (further, 's' if further > 1 else '') if further else ''
         return word if word.startswith('runs') else '%s at %s' % (word, '; '.join(map(self.place, blocks)))
+
+    def holding(self, held):
+        return ' with ' + ' and '.join(self.app.resources[r].name for r in held) if held else ''
+
+    def routine(self, point, values):
+        """Where a routine may be: it runs at a point of its own, and waits below another routine elsewhere."""
+        places, told = {}, ['out'] if (OUT,) in values else []
+        for fields in values:
+            if fields != (OUT,):
+                places.setdefault(fields[ROUTINE_HELD:], []).append(fields[1])
+        for held, blocks in places.items():
+            runs = [block_of(point)] == blocks
+            told.append('runs' + self.holding(held) if runs else 'waits%s at %s' % (self.holding(held), '; '.join(map(self.place, blocks))))
+        return ' or '.join(told)
 
     def live(self, point, number, blocks):
         if executing_at(self.app, point) != number:

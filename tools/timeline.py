@@ -25,11 +25,13 @@ MOST = 2000
 
 HOOKS = ['Startup', 'Error', 'PreTask', 'PostTask', 'Shutdown']
 
-Task = namedtuple('Task', 'state events held')
-"""What a line says of a task: its state's letter, its events in hexadecimal or None, and the resources that it holds."""
+Task = namedtuple('Task', 'state events held further', defaults=(0,))
+"""What a line says of a task: its state's letter, its events in hexadecimal or None, the resources that it holds, and how many further
+activations it has."""
 
-Line = namedtuple('Line', 'number who tasks status value hooks')
-"""A line of a trace: its number, who has the processor, the tasks by name, and what was noted."""
+Line = namedtuple('Line', 'number who tasks status value hooks routines', defaults=({},))
+"""A line of a trace: its number, who has the processor, the tasks by name, what was noted, and by name what routines hold: those that wait below
+another one, and the one at the processor where it holds something."""
 
 class Trace:
     """The lines of a trace in a range of numbers. They are read anew each time that they are gone through."""
@@ -81,7 +83,9 @@ def trace_of(name, first=0, last=None):
     return Trace(file, name or 'standard input', first, last)
 
 
-TASK = re.compile(r'(\w+)=([SYRW])(?::([0-9a-f]+))?((?:\+\w+)*)', re.ASCII)
+TASK = re.compile(r'(\w+)=([SYRW])(?:\*(\d+))?(?::([0-9a-f]+))?((?:\+\w+)*)', re.ASCII)
+
+ROUTINE = re.compile(r'([@%]\w+)((?:\+\w+)*)', re.ASCII)
 
 WHO = re.compile(r'[-#]|[@%]?\w+', re.ASCII)
 
@@ -91,13 +95,36 @@ def task_of(word):
     match = TASK.fullmatch(word)
     if not match:
         raise ValueError(word)
-    return match.group(1), Task(match.group(2), match.group(3), match.group(4).split('+')[1:])
+    name, state, further, events, held = match.groups()
+    return name, Task(state, events, held.split('+')[1:], int(further or 0))
+
+
+def routine_of(word):
+    """The name of a routine and what it holds, as a word of a line says them; a ValueError where it says none."""
+    match = ROUTINE.fullmatch(word)
+    if not match:
+        raise ValueError(word)
+    return match.group(1), match.group(2).split('+')[1:]
+
+
+def has_begun(line, name):
+    """Whether a routine has begun and hasn't ended: it has the processor, or waits below another one."""
+    return line.who == name or name in line.routines
+
+
+def waits_below(line, name):
+    return line.who != name and name in line.routines
+
+
+def stacks_of(line):
+    """What tasks and routines hold, by name; no task is called as a routine is, whose name begins with a sign."""
+    return {**{name: task.held for name, task in line.tasks.items()}, **line.routines}
 
 
 def line_of(text):
     """What a line says; a ValueError where it is none of a trace."""
     number, who, *words = text.split(' ')
-    tasks, status, value, hooks = {}, None, None, []
+    tasks, status, value, hooks, routines = {}, None, None, [], {}
     for word in words:
         if word[:1] == '!':
             status = STATUSES[STATUSES.index(word[1:])]
@@ -105,12 +132,15 @@ def line_of(text):
             hooks.append(HOOKS[HOOKS.index(word[1:])])
         elif word[:1] == '=':
             value = word[1:]
+        elif word[:1] in ('@', '%'):
+            name, held = routine_of(word)
+            routines[name] = held
         else:
             name, task = task_of(word)
             tasks[name] = task
     if not WHO.fullmatch(who) or (who[0] not in '-#@%' and who not in tasks):
         raise ValueError(who)
-    return Line(int(number), who, tasks, status, value, hooks)
+    return Line(int(number), who, tasks, status, value, hooks, routines)
 
 
 def requests_of(text):

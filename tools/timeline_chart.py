@@ -1,6 +1,6 @@
 """The chart of timeline.py: rows over events, from left to right. Column n shows the state after event n."""
 from drawing import FAINT, INK, LINE, MONO, PAPER, Drawing
-from timeline import HOOKS, routines_of
+from timeline import HOOKS, has_begun, routines_of, stacks_of, waits_below
 
 STATE_COLOURS = {'running': '#0969da', 'interrupted': '#a5cdf8', 'ready': '#f2b84b', 'waiting': '#c7cfd8'}
 
@@ -9,6 +9,9 @@ ROUTINE_COLOURS = {'@': '#8250df', '%': '#1b7c83'}
 RESOURCE_COLOURS = ['#1a7f37', '#bf3989', '#9a6700', '#57606a', '#0550ae', '#cf222e', '#4d2d8a', '#116329']
 
 GOOD, BAD = '#2da44e', '#cf222e'
+
+WAITS = 0.35
+"""How much of a routine's colour is seen where it waits below another one."""
 
 TOP, ROW, BAR, STRIP = 76, 30, 14, 4
 """The room above the first row; the heights of a row, of a bar, and of a strip for a held resource."""
@@ -41,6 +44,11 @@ def spans(lines, value):
     return found
 
 
+def bar_text(task):
+    """What stands in a task's bar: its further activations, and its events; None where it has neither."""
+    return ('*%d' % task.further if task.further else '') + (':' if task.further and task.events else '') + (task.events or '') or None
+
+
 class Chart:
     def __init__(self, lines, trap, requests):
         self.lines, self.trap = lines, trap
@@ -48,7 +56,7 @@ class Chart:
         self.requests = [(n, name) for n, name in requests if n in shown]
         self.routines = routines_of(lines, self.requests)
         self.tasks = list(self.lines[0].tasks)
-        self.resources = sorted({r for line in self.lines for task in line.tasks.values() for r in task.held})
+        self.resources = sorted({r for line in self.lines for held in stacks_of(line).values() for r in held})
         self.drawing = Drawing()
         self.gutter = 30 + 7.8 * max(len(name) for name in self.tasks + self.routines + ['PostTask'])
         self.step = max(3, min(20, 1400 / len(self.lines)))
@@ -59,7 +67,7 @@ class Chart:
         places, y = {}, TOP
         for row in [(ROUTINE, name) for name in self.routines] + [(TASK, name) for name in self.tasks]:
             places[row] = y
-            y += ROW + STRIP * (max(len(line.tasks[row[1]].held) for line in self.lines) if row[0] == TASK else 0)
+            y += ROW + STRIP * max(len(stacks_of(line).get(row[1], ())) for line in self.lines)
         places[REST, '-'] = y
         y += ROW + 8
         for name in self.note_names():
@@ -138,8 +146,10 @@ class Chart:
             else:
                 d.rect(self.x(begin), y + 13, self.step * (until - begin), 4, colour, fill_opacity=0.3)
                 d.path('M%.1f %.1fh8l-4 6Z' % (x, y + 3), 'none', fill=colour, title=title)
-        for begin, end, _ in spans(self.lines, lambda line: True if line.who == name else None):
-            d.rect(self.x(begin), y + 8, self.step * (end - begin), BAR, colour, rx=2)
+        for begin, end, waits in spans(self.lines, lambda line: waits_below(line, name) if has_begun(line, name) else None):
+            title = '%s waits below another routine from %d to %d' % (name, self.lines[begin].number, self.lines[end - 1].number) if waits else None
+            d.rect(self.x(begin), y + 8, self.step * (end - begin), BAR, colour, rx=2, fill_opacity=WAITS if waits else None, title=title)
+        self.paint_stack(name, y)
 
     def latches(self, name):
         """The requests of a routine: the place of each, and where the routine begins; None for one that came while another waited, which
@@ -152,7 +162,7 @@ class Chart:
         return found
 
     def begins(self, name, place):
-        return self.lines[place].who == name and self.lines[place - 1].who != name
+        return self.lines[place].who == name and not has_begun(self.lines[place - 1], name)
 
     def paint_task(self, name):
         d, y = self.drawing, self.rows[TASK, name]
@@ -160,9 +170,12 @@ class Chart:
         for begin, end, state in spans(self.lines, lambda line: state_of(line, name)):
             title = '%s is %s from %d to %d' % (name, state, self.lines[begin].number, self.lines[end - 1].number)
             d.rect(self.x(begin), y + 8, self.step * (end - begin), BAR, STATE_COLOURS[state], rx=2, title=title)
-        for begin, end, events in spans(self.lines, lambda line: line.tasks[name].events):
+        for begin, end, text in spans(self.lines, lambda line: bar_text(line.tasks[name])):
             if self.step >= 10:
-                d.text(self.x(begin) + 3, y + 18.5, events, size=9.5, font=MONO, fill=self.ink_over(name, begin))
+                d.text(self.x(begin) + 3, y + 18.5, text, size=9.5, font=MONO, fill=self.ink_over(name, begin))
+        self.paint_stack(name, y)
+
+    def paint_stack(self, name, y):
         for depth in range(len(self.resources)):
             self.paint_held(name, depth, y + 8 + BAR + 1 + STRIP * depth)
 
@@ -173,7 +186,7 @@ class Chart:
         """A strip for the resource that was taken at this depth."""
 
         def held(line):
-            stack = line.tasks[name].held
+            stack = stacks_of(line).get(name, ())
             return stack[depth] if depth < len(stack) else None
         for begin, end, resource in spans(self.lines, held):
             colour = RESOURCE_COLOURS[self.resources.index(resource) % len(RESOURCE_COLOURS)]
@@ -248,6 +261,9 @@ class Chart:
         if self.step >= 10 and any(task.events is not None for line in self.lines for task in line.tasks.values()):
             y += 20
             d.text(16, y + 4, 'A number in a bar: the events that are set from here on, in hexadecimal.', size=11)
+        if self.step >= 10 and any(task.further for line in self.lines for task in line.tasks.values()):
+            y += 20
+            d.text(16, y + 4, 'A number behind * in a bar: so many further activations wait.', size=11)
         if self.is_dense():
             y += 20
             d.text(16, y + 4, 'Notes are drawn as how many there are: the darker the more, and errors above the rest.', size=11)
@@ -260,6 +276,8 @@ class Chart:
         keys += [('line', LINE, 'suspended')] if None in states else []
         keys += [('bar', ROUTINE_COLOURS[c], t) for c, t in (('@', 'interrupt routine'), ('%', 'tick routine'))
                  if any(name[0] == c for name in self.routines)]
+        keys += [('waits', ROUTINE_COLOURS['@'], 'waits below another routine')] if any(
+            waits_below(line, name) for line in self.lines for name in line.routines) else []
         keys += [('request', '#57606a', 'requested')] if self.requests else []
         is_lost = any(until is None for name in self.routines for _, until in self.latches(name))
         keys += [('lost', '#57606a', 'requested while it waits: lost')] if is_lost else []
@@ -272,6 +290,8 @@ class Chart:
         d = self.drawing
         if mark == 'bar':
             d.rect(x, y - 6, 24, 12, colour, rx=2)
+        elif mark == 'waits':
+            d.rect(x, y - 6, 24, 12, colour, rx=2, fill_opacity=WAITS)
         elif mark == 'strip':
             d.rect(x, y - 2, 24, STRIP, colour)
         elif mark == 'line':

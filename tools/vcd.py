@@ -1,12 +1,13 @@
 """The value change dump of timeline.py (IEEE 1364): one unit of time is one event.
 
-A task has its state as a letter (eight bits, to be shown as ASCII), whether the processor is its own, and its events; each
-resource that it holds somewhere is a wire. A routine is a wire that is 1 while it has the processor, and a hook one that is 1 at
-its event. The status is a number, and x where none was noted."""
+A task has its state as a letter (eight bits, to be shown as ASCII), whether the processor is its own, its events and its further activations; each
+resource that it holds somewhere is a wire. A routine is a wire that is 1 while it has the processor, with another one that is 1 while it waits
+below another routine, and one for each resource that it holds somewhere; a hook is one that is 1 at its event. The status is a number, and x
+where none was noted."""
 from collections import namedtuple
 
 from states import STATUSES
-from timeline import HOOKS
+from timeline import HOOKS, stacks_of, waits_below
 
 Signal = namedtuple('Signal', 'scope name width value')
 """A signal: value gives its bits at a line of the trace."""
@@ -38,16 +39,21 @@ class Seen:
 
     def __init__(self, trace):
         self.tasks, self.routines, self.hooks, self.extended, self.held = {}, {}, set(), set(), {}
+        self.queued, self.nested = set(), set()
         for line in trace:
             if line.who[0] in '@%':
                 self.routines.setdefault(line.who)
             self.hooks.update(line.hooks)
+            self.nested.update(name for name in line.routines if waits_below(line, name))
             for name, task in line.tasks.items():
                 self.tasks.setdefault(name)
                 if task.events is not None:
                     self.extended.add(name)
-                if task.held:
-                    self.held.setdefault(name, set()).update(task.held)
+                if task.further:
+                    self.queued.add(name)
+            for name, held in stacks_of(line).items():
+                if held:
+                    self.held.setdefault(name, set()).update(held)
 
 
 def signals_of(seen):
@@ -55,6 +61,10 @@ def signals_of(seen):
     for who in seen.routines:
         name = ('isr_' if who[0] == '@' else 'tick_') + who[1:]
         found.append(wire('processor', name, lambda line, who=who: line.who == who))
+        if who in seen.nested:
+            found.append(wire('processor', name + '_waits', lambda line, who=who: waits_below(line, who)))
+        found += [wire('processor', '%s_holds_%s' % (name, r), lambda line, who=who, r=r: r in line.routines.get(who, ()))
+                  for r in sorted(seen.held.get(who, ()))]
     for task in seen.tasks:
         found += task_signals(seen, task)
     found.append(vector('notes', 'status', 4, lambda line: STATUSES.index(line.status) if line.status else None))
@@ -69,6 +79,8 @@ def task_signals(seen, task):
              wire(task, 'running', lambda line: line.who == task)]
     if task in seen.extended:
         found.append(vector(task, 'events', 64, lambda line: events_of(line.tasks[task])))
+    if task in seen.queued:
+        found.append(vector(task, 'further', 8, lambda line: line.tasks[task].further))
     for resource in sorted(seen.held.get(task, ())):
         found.append(wire(task, 'holds_' + resource, lambda line, r=resource: r in line.tasks[task].held))
     return found

@@ -12,6 +12,7 @@ all states of the application were looked at.
 import os
 import re
 
+import opened
 from certified import table_of
 from given import Parser, Wrong, run
 from least_table import MOST_ASKED, Analysis, form
@@ -19,7 +20,7 @@ from model import events_of, line, play
 from points import block_of, shown_point
 from site_runs import Search
 from states import KEEP
-from table_bytes import HELD
+from table_bytes import HELD, OUT
 from table_words import Wording
 from texts import add_texts, application
 
@@ -55,12 +56,21 @@ class Site:
                 task = self.app.tasks[t]
                 kind = '' if task.is_full else ', not preemptable'
                 yield '  %s, priority %d%s: %s' % (task.name, task.priority, kind, wording.task(point, t, table[point][t]))
+            yield from ('  ' + text for text in self.routine_lines(point, table[point], wording))
         yield from self.ceiling_lines(table)
+
+    def routine_lines(self, point, sets, wording):
+        """Where the routines are that may have begun here, besides the one whose site it is."""
+        for source, values in list(zip(self.app.sources[::-1], sets[::-1])) if opened.has(opened.NESTED) else []:
+            if list(values) != [(OUT,)] and source.name != self.owner.name:
+                yield '%s%s, priority %d: %s' % (source.mark, source.name, source.priority, wording.routine(point, values))
 
     def ceiling_lines(self, table):
         """What resources that are held here do to a priority."""
         values = [fields for p, sets in table.items() if block_of(p) == self.block for found in sets[:len(self.app.tasks)] for fields in found]
-        for resource in (self.app.resources[r] for r in sorted({r for fields in values for r in fields[HELD:]})):
+        internal = {self.app.internal[t] for p, sets in table.items() if block_of(p) == self.block
+                    for t, found in enumerate(sets[:len(self.app.tasks)]) for fields in found if fields[3:4] == (1,)}
+        for resource in (self.app.resources[r] for r in sorted({r for fields in values for r in fields[HELD:]} | internal)):
             if resource.ceiling:
                 yield 'who holds %s is just above priority %d' % (resource.name, resource.ceiling // 2)
 

@@ -1,11 +1,11 @@
 -- Values that the components can have at a point, one each, make a well-formed state there.
-use Rattle.std.proofs.Common.{◌≡◌, ◌≢◌, ℕ, ◌+◌, ◌<◌, ◌≤◌, Bool, true, false, ◌&&◌, not, nat_lt, [], length, map, replicate, get_or, refl, sym, ap, subst, ◌∙◌, inl, inr, arith, Some, None, IfSome}
+use Rattle.std.proofs.Common.{◌≡◌, ◌≢◌, ℕ, ◌<◌, ◌≤◌, Bool, true, false, ◌&&◌, nat_lt, [], length, map, replicate, get_or, refl, sym, ap, subst, ◌∙◌, inl, inr, arith, Some, None, IfSome}
 use Rattle.std.proofs.lemmas.Bool.{cases_eq, cases_lt, and_parts, eq-eqb, eqb-true, false≢true, ne_eqb, Decides.{nat_tests}}
 use Rattle.std.proofs.lemmas.List.{get_or_past, get_or-replicate, length-replicate, FromFn.{length-map-range_with_len, get_or-map-range_with_len}}
 use Rattle.std.specs.{Prelude.{if◌then◌else◌, is_some}, List.{range_with_len}, declared.option.Option.{Option}}
 use Rattle.osek_values.specs.{Numbers.{task_no, source_no, mode_no, event_no, alarm_no}, declared.numbers.{TaskNo.{TaskNo}, BlockNo.{BlockNo}, SourceNo.{SourceNo}}, Bits.{has_bit}}
 use Rattle.osek_standard.specs.declared.{app.App.{App}, task_state.TaskState.{TaskState}, state.{Source.{Source}, AlarmState.{AlarmState}}, point.Point.{Point}}
-use Rattle.osek_standard.specs.{Apps.{the_task, the_counter, the_block, source_count, no_task}, TaskStates.{suspended, is_inside, is_inside_in, is_live, is_live_activity}, Internal.{IsInside, internal_of}}
+use Rattle.osek_standard.specs.{Apps.{the_task, the_counter, the_block, source_count}, TaskStates.{suspended, is_inside, is_inside_in, is_live, is_live_activity}, Internal.{IsInside, internal_of}}
 use Rattle.osek_standard.specs.{States.{task_of, task_state, source_state, alarm_state, is_source_at, is_that_task, place_in, place_of_source}, Effects.{place_at}, Line.{places_due}}
 use Rattle.osek_standard.specs.{Well.{HasProcessor, IsActivityOf, IsAlarmState, IsArmed, IsOffsetAt, IsProcessor, IsRunningAt, IsSourceState, IsTaskState}, Points.{point_of, IsPoint}}
 use Rattle.osek_standard.specs.declared.state.Source.TheVariants as source
@@ -14,7 +14,7 @@ use Rattle.osek_standard.specs.declared.point.Point.TheVariants as point
 use Rattle.osek_standard.proofs.{WellLaws.{own_block, routine_block, offset_0}, StackLaws.{no_stack}, SourceKeeps.{running_is_right}}
 use Rattle.osek_standard.proofs.PlaceLaws.{places_in}
 use Rattle.abstract_state.specs.declared.value.{Val.{Val, TheVariants.{Suspended, Live, Waiting}}, LiveVal.{LiveVal}, Component.{Component}, PartValue.{PartValue, TheVariants.{OfTask, OfEvent, OfAlarm}}}
-use Rattle.abstract_state.specs.Components.{component_at, component_count, component_number, value_in, is_armed, abstract_of, part_of, IsComponent, IsVal, IsLiveVal}
+use Rattle.abstract_state.specs.Components.{component_at, component_count, component_number, value_in, is_armed, abstract_of, part_of, IsComponent, IsVal}
 use Rattle.abstract_state.specs.Components.{RunsAt, IsInterruptedVal, FitsPoint, IsPart}
 use Rattle.abstract_state.specs.Concrete.{Free, val_of, flag_of, activity_of, alarm_of, event_chosen, task_chosen, alarm_chosen, source_by, processor_by, state_of, StandsThere}
 use Rattle.abstract_state.specs.Concrete.{IsFree, IsRoutineAt, AreAllowed, HasParts, places_wanted}

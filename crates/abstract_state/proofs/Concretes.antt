@@ -10,7 +10,7 @@ use Rattle.osek_standard.specs.declared.state.AlarmState.TheVariants as alarm
 use Rattle.osek_standard.specs.declared.state.Source.TheVariants as source
 use Rattle.osek_standard.specs.declared.{task_state.TaskState.{TaskState}, point.Point.{Point}}
 use Rattle.osek_standard.specs.declared.point.Point.TheVariants as point
-use Rattle.osek_standard.specs.{Apps.{the_block, the_alarm, the_counter, source_count, max_of, no_alarm, no_counter}, States.{alarm_state, here, place_in, place_of_source}}
+use Rattle.osek_standard.specs.{Apps.{the_block, the_alarm, the_counter, source_count, max_of, no_alarm, no_counter}, States.{alarm_state, place_in, place_of_source}}
 use Rattle.osek_standard.specs.{Effects.{place_at}, Arrivals.{arrival}, Points.{StandsAt, IsPoint}, Well.{IsOffsetAt, IsArmed}}
 use Rattle.osek_standard.proofs.{ArrivalLaws.{is_arrival, none_latched as nothing_arrives}, PlaceLaws.{places_in, itself_first, other_first, without_same, without_other}}
 use Rattle.abstract_state.specs.declared.value.{LiveVal.{LiveVal}, Val.{Val, TheVariants.{Suspended, Live, Waiting}}, PartValue.{PartValue, TheVariants.{OfTask}}}

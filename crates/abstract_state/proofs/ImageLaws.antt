@@ -192,4 +192,4 @@ module _ (i : Image) (table : Sets) where
 
   -- nothing is known in an image of version 1
   pub statuses_of_version_1 : i.version ≡ version.One → KnowsAtMost table i
-  statuses_of_version_1 one b k is = inl (unknown_at (site_at i b) k (said_at i.sites b (subst (λ (v : Version). FitsAlone v i.sites) one i.its_version).unknown) is)
+  statuses_of_version_1 one b k is = inl (unknown_at (site_at i b) k (said_at i.sites b (subst (λ (v : Version). FitsAlone v i.app i.sites) one i.its_version).unknown) is)

@@ -1,5 +1,5 @@
 -- Each component stands at its number.
-use Rattle.std.proofs.Common.{◌≡◌, ℕ, zero, suc, ◌+◌, ◌<◌, List, [], ◌∷◌, ◌++◌, length, map, flat_map, length-append, refl, sym, ap, ◌∙◌, arith, add-one}
+use Rattle.std.proofs.Common.{◌≡◌, ℕ, zero, suc, ◌+◌, ◌<◌, List, ◌++◌, length, map, flat_map, length-append, refl, sym, ap, ◌∙◌, arith, add-one}
 use Rattle.std.specs.{Prelude.{◌^◌, count_ones}, List.{range_with_len}}
 use Rattle.std.proofs.lemmas.List.{get_or_default, length-map}
 use Rattle.osek_values.specs.{Numbers.{task_no, event_no, alarm_no}, Bits.{has_bit}}

@@ -1,5 +1,5 @@
 -- The start and each step of the kernel keep a state regular.
-use Rattle.std.proofs.Common.{◌≡◌, ◌<◌, Bool, true, false, length, refl, sym, ◌∙◌, subst, arith, Some, None, get_or-set_other}
+use Rattle.std.proofs.Common.{◌≡◌, ◌<◌, Bool, length, refl, sym, ◌∙◌, subst, arith, Some, None, get_or-set_other}
 use Rattle.std.proofs.lemmas.Bool.{eq-eqb, false≢true}
 use Rattle.std.specs.declared.option.Option.{Option}
 use Rattle.osek_values.specs.declared.{event.Event.{Event, TheVariants.{Run, Irq, Tick}}, numbers.{TaskNo.{TaskNo}, SourceNo.{SourceNo}, ModeNo.{ModeNo}}}

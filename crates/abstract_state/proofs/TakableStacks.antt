@@ -1,5 +1,5 @@
 -- Stacks of an application: none is higher than there are resources that may be taken, and a lower one lacks one of these.
-use Rattle.std.proofs.Common.{◌≡◌, ◌⊎◌, ℕ, ◌+◌, ◌<◌, ◌≤◌, Bool, true, false, not, ◌||◌, IsTrue, List, [], ◌∷◌, length, refl, sym, ap, subst, ◌∙◌, inl, inr, arith}
+use Rattle.std.proofs.Common.{◌≡◌, ◌⊎◌, ◌<◌, ◌≤◌, Bool, true, false, not, ◌||◌, IsTrue, List, [], ◌∷◌, length, refl, sym, ap, subst, ◌∙◌, inl, inr, arith}
 use Rattle.std.specs.Prelude.{◌==◌}
 use Rattle.std.proofs.lemmas.{Bool.{cases_Bool, eqb-true}, List.Elements.{recursion_from_All}}
 use Rattle.osek_values.specs.{declared.numbers.ResNo.{ResNo}, Numbers.{res_no}}

@@ -11,9 +11,10 @@ use Rattle.task_code.specs.declared.tree.BodyKind.TheVariants as body_kind
 use Rattle.task_code.specs.Fit.{AreFit, IsFit}
 use Rattle.block_graph.specs.Apps.{counters_from, counters_of, extent, isr_with, isrs_of, tables_over, task_with, tasks_of}
 use Rattle.block_graph.specs.{Blocks.{app_blocks, body_blocks, routine, routine_size, routines, size, source_blocks, source_size}, Faults.{HasNoFault}}
-use Rattle.block_graph.specs.Rules.{from_calls, is_code_of, is_kind, isr_resources_by, undeclared_in}
+use Rattle.block_graph.specs.Rules.{from_calls, is_code_of, is_kind, isr_resources_by}
 use Rattle.block_graph.proofs.OwnersLaws.{body_is_isr_code, body_is_owner, body_is_task_code, due_inside, routine_is_owner, routine_is_tick_code, routine_length, source_length}
 use Rattle.block_graph.proofs.ExtentsLists.{all_at, behind_front, each_map, each_of}
+use Rattle.block_graph.proofs.OwnersCalls.{wrong_names}
 use Rattle.block_graph.proofs.ExtentsRules.{isr_takes_none, isrs_have_code, names_declared, resources_of_tasks, tasks_have_code}
 
 -- ---- the code of an owner among the bodies
@@ -116,8 +117,8 @@ module _ (s : System) (code : Code) (linkable : IsLinkable s) (fit : AreFit code
   code_fit : (kind : BodyKind) (name : List ℕ) (found : HasCode kind name bodies) → IsFit found.body
   code_fit = of_code IsFit (each_of IsFit bodies fit)
 
-  code_declared : (kind : BodyKind) (name : List ℕ) (found : HasCode kind name bodies) → from_calls (undeclared_in s) found.body.statements ≡ []
-  code_declared = of_code (λ (body : Body). from_calls (undeclared_in s) body.statements ≡ []) (names_declared s code clean)
+  code_declared : (kind : BodyKind) (name : List ℕ) (found : HasCode kind name bodies) → from_calls (wrong_names s) found.body.statements ≡ []
+  code_declared = of_code (λ (body : Body). from_calls (wrong_names s) body.statements ≡ []) (names_declared s code clean)
 
   code_without_resources : (kind : BodyKind) (name : List ℕ) (found : HasCode kind name bodies) → isr_resources_by found.body.kind found.body.statements ≡ []
   code_without_resources = of_code (λ (body : Body). isr_resources_by body.kind body.statements ≡ []) (resources_of_tasks s code clean)

@@ -2,14 +2,15 @@
 use Rattle.std.proofs.Common.{◌≡◌, ℕ, ◌≤◌, List, [], ◌∷◌, ◌++◌, length, drop, length-drop, Bool, true, false, refl, sym, ap, subst, arith}
 use Rattle.std.specs.{Prelude.{◌||◌, filter, if◌then◌else◌}, List.{AllByRecursion, list_any}}
 use Rattle.std.proofs.lemmas.{Bool.{or_parts, not-false}, List.{length-append, Sums.{sum_by-cons}}}
-use Rattle.osek_values.specs.declared.refusal.CodeRule.TheVariants.{C1, C2, C3, C4, C6, C8}
+use Rattle.osek_values.specs.declared.refusal.CodeRule.TheVariants.{C1, C2, C3, C4, C6, C8, C10}
 use Rattle.oil_system.specs.declared.system.{TaskObject.{TaskObject}, System.{System}}
 use Rattle.oil_model.specs.Rules.{repeated}
-use Rattle.oil_model.proofs.Clean.{no_line, left_empty, right_empty, map_empty, mark_empty, none_pass, each_empty, all_weaker}
+use Rattle.oil_model.proofs.Clean.{no_line, left_empty, right_empty, map_empty, mark_empty, none_pass, each_empty, all_weaker, all_both}
 use Rattle.task_code.specs.declared.tree.{BodyKind.{BodyKind, TheVariants.{Task, Isr}}, Body.{Body}, Code.{Code}}
 use Rattle.task_code.specs.Statements.{Statements, closed, work_then, if_then, if_else_then, while_then, call_then, closing_line, nodes}
 use Rattle.block_graph.specs.{Blocks.{size, source_size}, Faults.{HasNoFault}}
-use Rattle.block_graph.specs.Rules.{beyond_limit, block_lines, first_only, from_calls, has_owner, has_same_owner, is_code_of, is_stray, isr_resources, isr_resources_by, lacks_code, line_of_body, missing_code, of_resource, repeated_code, statement_lines, stray_code, undeclared_in, undeclared_names}
+use Rattle.block_graph.specs.Rules.{beyond_limit, block_lines, first_only, from_calls, has_owner, has_same_owner, internal_in, internal_resources, is_code_of, is_stray, isr_resources, isr_resources_by, lacks_code, line_of_body, missing_code, of_resource, repeated_code, statement_lines, stray_code, undeclared_in, undeclared_names}
+use Rattle.block_graph.proofs.OwnersCalls.{wrong_names, no_wrong_name}
 use Rattle.block_graph.proofs.ExtentsLists.{append_none, append_push, none_of}
 
 -- ---- no fault
@@ -55,9 +56,14 @@ module _ (s : System) (code : Code) (clean : HasNoFault s code) where
       let once : repeated has_same_owner [] code.bodies ≡ [] = map_empty line_of_body (repeated has_same_owner [] code.bodies) none in
       not_repeated has_same_owner [] before body behind (subst (λ bodies. repeated has_same_owner [] bodies ≡ []) split once)
 
-  -- each name in a call is declared
-  pub names_declared : AllByRecursion (λ (body : Body). from_calls (undeclared_in s) body.statements ≡ []) code.bodies
-  names_declared = each_empty (λ (body : Body). from_calls (undeclared_in s) body.statements) code.bodies (no_line (undeclared_names s code.bodies) (λ l h. clean C4 l h))
+  -- each name in a call is declared, and no call takes or gives back an INTERNAL resource
+  pub names_declared : AllByRecursion (λ (body : Body). from_calls (wrong_names s) body.statements ≡ []) code.bodies
+  names_declared =
+      all_weaker (λ (body : Body). from_calls (wrong_names s) body.statements ≡ []) (λ (body : Body). (from_calls (undeclared_in s) body.statements ≡ []) × (from_calls (internal_in s) body.statements ≡ [])) code.bodies
+      (λ body h. no_wrong_name s body.statements h.0 h.1)
+      (all_both (λ (body : Body). from_calls (undeclared_in s) body.statements ≡ []) (λ (body : Body). from_calls (internal_in s) body.statements ≡ []) code.bodies
+      (each_empty (λ (body : Body). from_calls (undeclared_in s) body.statements) code.bodies (no_line (undeclared_names s code.bodies) (λ l h. clean C4 l h)))
+      (each_empty (λ (body : Body). from_calls (internal_in s) body.statements) code.bodies (no_line (internal_resources s code.bodies) (λ l h. clean C10 l h))))
 
   -- an ISR takes no resource
   pub resources_of_tasks : AllByRecursion (λ (body : Body). isr_resources_by body.kind body.statements ≡ []) code.bodies

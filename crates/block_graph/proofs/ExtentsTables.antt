@@ -1,13 +1,13 @@
 -- What the tables of the application keep of those of the system, and how many blocks there are.
 use Rattle.std.proofs.Common.{◌≡◌, ℕ, zero, suc, ◌+◌, ◌*◌, ◌<◌, ◌≤◌, ◌^◌, List, [], ◌∷◌, length, map, Bool, true, false, cond, eqb, leb, refl, sym, ap, ◌∙◌, subst, arith}
 use Rattle.std.proofs.lemmas.{Bool.Decides.{nat_tests}, List.{length-append, length-map, map-id, Sums.{count_by-le-length, sum_by-cons}}}
-use Rattle.std.specs.{Prelude.{◌||◌, ◌&&◌, ◌==◌, nat_eq, nat_le, slice_index_or, All, count_by}, List.{IsDistinct, enumerate_from, filter, AllByRecursion}}
-use Rattle.osek_values.specs.Names.{AreNames}
+use Rattle.std.specs.{Prelude.{◌||◌, ◌&&◌, ◌==◌, nat_le, slice_index_or, All, Option, Some, None, count_by}, List.{enumerate_from, filter, AllByRecursion}}
+use Rattle.osek_values.specs.{Names.{AreNames}, declared.numbers.ResNo.{ResNo}}
 use Rattle.oil_system.specs.declared.{objects.{Action.{Action}, Alarm.{Alarm}}, system.{CounterObject.{CounterObject}, TaskObject.{TaskObject}, System.{System}}}
 use Rattle.oil_system.specs.declared.objects.Action.TheVariants as action
 use Rattle.osek_standard.specs.declared.{objects.{Counter.{Counter}, Isr.{Isr}, Task.{Task}}, block.Block.{Block}}
-use Rattle.osek_standard.specs.{Validity.{IsAction, IsAlarmOf, due_of, is_cycle_of, no_counter}, Versions.{FitsVersion1}}
-use Rattle.oil_model.specs.Linkable.{IsActionAmong, IsAlarmAmong, IsLinkable, is_cycle_of_object, no_counter_object}
+use Rattle.osek_standard.specs.Validity.{IsAction, IsAlarmOf, IsInternal, due_of, is_cycle_of, no_counter}
+use Rattle.oil_model.specs.Linkable.{IsActionAmong, IsAlarmAmong, IsInternalAmong, IsLinkable, is_cycle_of_object, no_counter_object}
 use Rattle.task_code.specs.declared.tree.{Body.{Body}, Code.{Code}}
 use Rattle.task_code.specs.declared.tree.BodyKind.TheVariants as body_kind
 use Rattle.block_graph.specs.Apps.{counters_from, counters_of, extent, isr_with, isrs_of, tables_over, task_with, tasks_of}
@@ -39,6 +39,12 @@ counter_bounds s (x ∷ xs) c n (suc i) d e lt = counter_bounds s xs (c + 1) (n 
 action_named : (s : System) (bodies : List Body) (blocks : List Block) (x : Action) → IsActionAmong (length s.tasks) x → IsAction (tables_over s bodies blocks) x
 action_named s bodies blocks (action.ActivateTask t) h = omega (arith, task_count s bodies, h)
 action_named s bodies blocks (action.SetEvent t m) h = (omega (arith, task_count s bodies, h.0), h.1)
+
+-- ---- INTERNAL resources
+
+pub internal_kept : (s : System) (bodies : List Body) (blocks : List Block) (o : Option ResNo) → IsInternalAmong s.resources o → IsInternal (tables_over s bodies blocks) o
+internal_kept s bodies blocks None h = tt
+internal_kept s bodies blocks (Some r) h = h
 
 cycle_kept : (x : Counter) (o : CounterObject) (cycle : ℕ) → HasBounds x o → is_cycle_of_object o cycle ≡ true → is_cycle_of x cycle ≡ true
 cycle_kept x o cycle same e = (λ i. (cycle == 0) || (nat_le (same.1 i) cycle && nat_le cycle (same.0 i))) ∙ e
@@ -114,13 +120,14 @@ module _ (s : System) (bodies : List Body) (linkable : IsLinkable s) where
   pub counter_names : AreNames (map (λ (x : Counter). x.name) (counters_of s bodies))
   counter_names = subst AreNames (sym (counter_name s s.counters 0 (source_size bodies))) linkable.counter_names
 
-  -- what is so of each task and of each ISR, whatever the system says of it
-  pub each_task_is : (P : Task → Type 0) → ((x : TaskObject) (e : ℕ × ℕ) → P (task_with x e)) → All P (tasks_of s bodies)
-  each_task_is P h =
+  -- what is so of each task of the system
+  pub each_task_keeps : (P : Task → Type 0) → All (λ (x : TaskObject). P (task_with x (extent body_kind.Task x.name bodies 0))) s.tasks → All P (tasks_of s bodies)
+  each_task_keeps P h =
       all_at P (tasks_of s bodies)
       (each_map P (λ (x : TaskObject). task_with x (extent body_kind.Task x.name bodies 0)) s.tasks
-      (every _ s.tasks (λ (x : TaskObject). h x (extent body_kind.Task x.name bodies 0))))
+      (each_of (λ (x : TaskObject). P (task_with x (extent body_kind.Task x.name bodies 0))) s.tasks h))
 
+  -- what is so of each ISR, whatever the system says of it
   pub each_isr_is : (P : Isr → Type 0) → ((name : List ℕ) (e : ℕ × ℕ) → P (isr_with name e)) → All P (isrs_of s bodies)
   each_isr_is P h =
       all_at P (isrs_of s bodies)
@@ -128,9 +135,7 @@ module _ (s : System) (bodies : List Body) (linkable : IsLinkable s) where
       (every _ s.isrs (λ (name : List ℕ). h name (extent body_kind.Isr name bodies 0))))
 
   pub task_starts : All (λ (x : Task). x.autostart < 2 ^ length s.modes) (tasks_of s bodies)
-  task_starts =
-      all_at (λ (x : Task). x.autostart < 2 ^ length s.modes) (tasks_of s bodies)
-      (each_map (λ (x : Task). x.autostart < 2 ^ length s.modes) (λ (x : TaskObject). task_with x (extent body_kind.Task x.name bodies 0)) s.tasks (each_of (λ (x : TaskObject). x.autostart < 2 ^ length s.modes) s.tasks linkable.task_starts))
+  task_starts = each_task_keeps (λ (x : Task). x.autostart < 2 ^ length s.modes) linkable.task_starts
 
   counter_facts : (k : ℕ) (d : Counter) → k < length (counters_of s bodies) → (1 ≤ (slice_index_or (counters_of s bodies) k d).max) × ((slice_index_or (counters_of s bodies) k d).min_cycle ≤ (slice_index_or (counters_of s bodies) k d).max)
   counter_facts k d lt =
@@ -159,8 +164,3 @@ module _ (s : System) (bodies : List Body) (linkable : IsLinkable s) where
 
   pub each_alarm : (blocks : List Block) → All (IsAlarmOf (tables_over s bodies blocks)) s.alarms
   each_alarm blocks = λ k d lt. alarm_kept blocks (slice_index_or s.alarms k d) (linkable.each_alarm k d lt)
-
-  pub version_1 : FitsVersion1 (tasks_of s bodies)
-  version_1 = record {
-    priorities = subst (IsDistinct nat_eq) (sym (mapped_twice (λ (x : TaskObject). task_with x (extent body_kind.Task x.name bodies 0)) (λ (x : Task). x.priority) s.tasks)) linkable.priorities;
-  }

@@ -1,15 +1,14 @@
 -- A system and its code have one answer and no other.
 use Rattle.std.proofs.Common.{◌≡◌, sym, ap, ◌∙◌, subst}
-use Rattle.std.specs.Prelude.{IfOk, Result, Ok, Err}
-use Rattle.osek_standard.specs.{declared.app.App.{App}, Apps.{tables}, Tables.{Tables, tabled}, Validity.{IsValid, IsValid-prop}, Versions.{FitsVersion1}}
+use Rattle.std.specs.Prelude.{Result, Ok, Err}
+use Rattle.osek_standard.specs.{declared.app.App.{App}, Apps.{tables}, Tables.{Tables, tabled}, Validity.{IsValid, IsValid-prop}}
 use Rattle.oil_system.specs.declared.system.System.{System}
-use Rattle.oil_model.specs.Linkable.{IsLinkable}
 use Rattle.task_code.specs.declared.tree.Code.{Code}
-use Rattle.osek_values.specs.{declared.{refused.{LineFault.{LineFault}, Refused.{Refused}}, refusal.CodeRule.{CodeRule, TheVariants.{C1}}}, Answers.{IsRight}}
+use Rattle.osek_values.specs.declared.{refused.LineFault.{LineFault}, refusal.CodeRule.{CodeRule, TheVariants.{C1}}}
 use Rattle.block_graph.specs.{Answers.{IsAnswer}, Apps.{HasApp}}
 use Rattle.osek_values.proofs.LeastFaults.{same_fault, no_fault}
 use Rattle.block_graph.specs.Faults.{order}
-use Rattle.block_graph.proofs.{LeastFaults.{rules, lines_in, all}, Valid.{fits_version_1}}
+use Rattle.block_graph.proofs.LeastFaults.{rules, lines_in, all}
 
 abbrev app_with : (t : Tables) → IsValid t → App
 app_with t v = record {
@@ -46,7 +45,3 @@ one s code (Ok a) (Ok b) x y = ap (λ (v : App). Ok v) (same_app s code a b x y)
 one s code (Ok a) (Err f) x y = absurd (no_fault order (lines_in s code) f y x.no_fault)
 one s code (Err f) (Ok a) x y = absurd (no_fault order (lines_in s code) f x y.no_fault)
 one s code (Err f) (Err g) x y = ap (λ (e : LineFault CodeRule). Err e) (same_fault order (lines_in s code) rules C1 (all s code) f g x y)
-
-pub gives_version_1 : (result : Result App (Refused (LineFault CodeRule))) (s : System) (code : Code) → IsLinkable s → IsRight (λ r. IsAnswer r s code) result → IfOk result (λ app. FitsVersion1 app.tasks)
-gives_version_1 (Ok app) s code linkable r = subst FitsVersion1 (sym r.tasks) (fits_version_1 s code linkable)
-gives_version_1 (Err e) s code linkable r = tt

@@ -1,20 +1,25 @@
 -- What the block of a call names is declared.
-use Rattle.std.proofs.Common.{◌≡◌, ℕ, ◌<◌, ◌≤◌, Bool, true, false, cond, ltb, List, [], ◌∷◌, ◌++◌, length, refl, sym, subst, arith, IsTrue}
+use Rattle.std.proofs.Common.{◌≡◌, ℕ, ◌<◌, ◌≤◌, Bool, true, false, cond, ltb, List, [], ◌∷◌, ◌++◌, length, refl, sym, ap, subst, arith, IsTrue}
 use Rattle.std.proofs.lemmas.{Bool.{ltb-true}, List.{length-map}, Nat.{le_or_l}}
-use Rattle.std.specs.{Prelude.{All, Some, None, unwrap_or, not}, List.{position, position_or_len, flat_map}}
-use Rattle.oil_system.specs.declared.{system.{EventObject.{EventObject}, TaskObject.{TaskObject}, System.{System}}, objects.Resource.{Resource}}
+use Rattle.std.specs.{Prelude.{All, Option, Some, None, unwrap_or, not}, List.{position, position_or_len, flat_map}}
+use Rattle.oil_system.specs.declared.system.{EventObject.{EventObject}, TaskObject.{TaskObject}, System.{System}}
 use Rattle.osek_standard.specs.{declared.block.Block.{Block}, Tables.{Tables}}
-use Rattle.osek_standard.specs.Validity.{IsOtherWay, NamesEntries, isr_may, is_own_next, task_may, is_internal, no_resource as no_resource_entry}
+use Rattle.osek_standard.specs.Validity.{IsOtherWay, NamesEntries, isr_may, is_own_next, task_may, is_internal}
 use Rattle.task_code.specs.{declared.{call.{Reference.{Reference}, Call.{Call}}, tree.Body.{Body}}, Fit.{NamesEvents}}
 use Rattle.task_code.specs.declared.call.Call.TheVariants as call
 use Rattle.task_code.specs.declared.tree.BodyKind.TheVariants as body_kind
 use Rattle.block_graph.specs.{Apps.{extent, tables_over, task_with, tasks_of}, Blocks.{event_bits, kind_of, mask_bits}, Names.{alarm_of, event_of, resource_of, task_of}}
-use Rattle.block_graph.specs.Rules.{no_alarm, no_event, no_resource, no_task, of_resource, undeclared, undeclared_in}
+use Rattle.block_graph.specs.Rules.{from_calls, internal_at, internal_in, internal_resource, no_alarm, no_event, no_resource, no_task, of_resource, undeclared, undeclared_in}
+use Rattle.task_code.specs.Statements.{Statements, closed, work_then, if_then, if_else_then, while_then, call_then}
+use Rattle.oil_model.proofs.Clean.{mark_empty}
 use Rattle.block_graph.specs.Blocks as graph
 
 pub both_empty : (a b : List ℕ) → a ++ b ≡ [] → (a ≡ []) × (b ≡ [])
 both_empty [] b e = (refl, e)
 both_empty (x ∷ a) b e = absurd cc
+
+none_in_both : (a b : List ℕ) → a ≡ [] → b ≡ [] → a ++ b ≡ []
+none_in_both a b e f = λ i. e i ++ f i
 
 below : (found : Bool) (place size line : ℕ) → ltb place size ≡ found → undeclared (cond found (Some place) None) line ≡ [] → unwrap_or (cond found (Some place) None) 0 < size
 below true place size line is e = ltb-true place size is
@@ -39,10 +44,42 @@ module _ (s : System) where
   resource_inside : (r : Reference) → no_resource s r ≡ [] → unwrap_or (resource_of s r.name) 0 < length s.resources
   resource_inside r e = number_inside _ s.resources r.line e
 
-  -- and it isn't INTERNAL
-  resource_taken : (r : Reference) → All (λ (x : Resource). IsTrue (not x.internal)) s.resources → no_resource s r ≡ [] →
+  -- what a call names that isn't declared, or is INTERNAL
+  abbrev pub wrong_names : ℕ → Call → List ℕ
+  wrong_names line c = undeclared_in s line c ++ internal_in s line c
+
+  pub no_wrong_name : (xs : Statements) → from_calls (undeclared_in s) xs ≡ [] → from_calls (internal_in s) xs ≡ [] → from_calls wrong_names xs ≡ []
+  no_wrong_name (closed line) d i = refl
+  no_wrong_name (work_then line count next) d i = no_wrong_name next d i
+  no_wrong_name (if_then line branch next) d i =
+      let e = both_empty (from_calls (undeclared_in s) branch) (from_calls (undeclared_in s) next) d in
+      let f = both_empty (from_calls (internal_in s) branch) (from_calls (internal_in s) next) i in
+      none_in_both _ _ (no_wrong_name branch e.0 f.0) (no_wrong_name next e.1 f.1)
+  no_wrong_name (if_else_then line branch otherwise next) d i =
+      let e = both_empty (from_calls (undeclared_in s) branch) (from_calls (undeclared_in s) otherwise ++ from_calls (undeclared_in s) next) d in
+      let f = both_empty (from_calls (internal_in s) branch) (from_calls (internal_in s) otherwise ++ from_calls (internal_in s) next) i in
+      let g = both_empty (from_calls (undeclared_in s) otherwise) (from_calls (undeclared_in s) next) e.1 in
+      let h = both_empty (from_calls (internal_in s) otherwise) (from_calls (internal_in s) next) f.1 in
+      none_in_both _ _ (no_wrong_name branch e.0 f.0) (none_in_both _ _ (no_wrong_name otherwise g.0 h.0) (no_wrong_name next g.1 h.1))
+  no_wrong_name (while_then line condition body next) d i =
+      let e = both_empty (from_calls (undeclared_in s) body) (from_calls (undeclared_in s) next) d in
+      let f = both_empty (from_calls (internal_in s) body) (from_calls (internal_in s) next) i in
+      none_in_both _ _ (no_wrong_name body e.0 f.0) (no_wrong_name next e.1 f.1)
+  no_wrong_name (call_then line c next) d i =
+      let e = both_empty (undeclared_in s line c) (from_calls (undeclared_in s) next) d in
+      let f = both_empty (internal_in s line c) (from_calls (internal_in s) next) i in
+      none_in_both _ _ (none_in_both _ _ e.0 f.0) (no_wrong_name next e.1 f.1)
+
+  -- the resource that a call takes or gives back is declared, and not INTERNAL
+  takable_at : (o : Option ℕ) (line other : ℕ) → undeclared o line ≡ [] → internal_at s o other ≡ [] → IsTrue (not (is_internal s.resources (unwrap_or o 0)))
+  takable_at None line other e i = absurd cc
+  takable_at (Some n) line other e i = ap not (mark_empty (is_internal s.resources n) other i)
+
+  resource_taken : (r : Reference) → no_resource s r ++ internal_resource s r ≡ [] →
       (unwrap_or (resource_of s r.name) 0 < length s.resources) × IsTrue (not (is_internal s.resources (unwrap_or (resource_of s r.name) 0)))
-  resource_taken r takable e = (resource_inside r e, takable (unwrap_or (resource_of s r.name) 0) no_resource_entry (resource_inside r e))
+  resource_taken r e =
+      let parts = both_empty (no_resource s r) (internal_resource s r) e in
+      (resource_inside r parts.0, takable_at (resource_of s r.name) r.line r.line parts.0 parts.1)
 
   -- a declared event has a bit
   some_bit : (r : Reference) → All (λ (x : EventObject). 0 < x.mask.0) s.events → no_event s r ≡ [] → 0 < event_bits s r
@@ -55,29 +92,32 @@ module _ (s : System) where
       let bit : 0 < event_bits s r = some_bit r events (both_empty (no_event s r) (flat_map (no_event s) more) e).0 in
       omega (arith, bit, le_or_l (event_bits s r) (mask_bits s more))
 
-  pub call_names_entries : (bodies : List Body) (blocks : List Block) → All (λ (x : EventObject). 0 < x.mask.0) s.events → All (λ (x : Resource). IsTrue (not x.internal)) s.resources
-      → (line : ℕ) (c : Call) → NamesEvents c → undeclared_in s line c ≡ [] → NamesEntries (tables_over s bodies blocks) (kind_of s c)
-  call_names_entries bodies blocks events takable line (call.ActivateTask task) m e = task_inside task bodies e
-  call_names_entries bodies blocks events takable line call.TerminateTask m e = tt
-  call_names_entries bodies blocks events takable line (call.ChainTask task) m e = task_inside task bodies e
-  call_names_entries bodies blocks events takable line call.Schedule m e = tt
-  call_names_entries bodies blocks events takable line (call.GetResource resource) m e = resource_taken resource takable e
-  call_names_entries bodies blocks events takable line (call.ReleaseResource resource) m e = resource_taken resource takable e
-  call_names_entries bodies blocks events takable line (call.SetEvent task mask) m e =
-      let parts = both_empty (no_task s task) (flat_map (no_event s) mask) e in
+  declared_in : (line : ℕ) (c : Call) → wrong_names line c ≡ [] → undeclared_in s line c ≡ []
+  declared_in line c e = (both_empty (undeclared_in s line c) (internal_in s line c) e).0
+
+  pub call_names_entries : (bodies : List Body) (blocks : List Block) → All (λ (x : EventObject). 0 < x.mask.0) s.events
+      → (line : ℕ) (c : Call) → NamesEvents c → wrong_names line c ≡ [] → NamesEntries (tables_over s bodies blocks) (kind_of s c)
+  call_names_entries bodies blocks events line (call.ActivateTask task) m e = task_inside task bodies (declared_in line (call.ActivateTask task) e)
+  call_names_entries bodies blocks events line call.TerminateTask m e = tt
+  call_names_entries bodies blocks events line (call.ChainTask task) m e = task_inside task bodies (declared_in line (call.ChainTask task) e)
+  call_names_entries bodies blocks events line call.Schedule m e = tt
+  call_names_entries bodies blocks events line (call.GetResource resource) m e = resource_taken resource e
+  call_names_entries bodies blocks events line (call.ReleaseResource resource) m e = resource_taken resource e
+  call_names_entries bodies blocks events line (call.SetEvent task mask) m e =
+      let parts = both_empty (no_task s task) (flat_map (no_event s) mask) (declared_in line (call.SetEvent task mask) e) in
       (task_inside task bodies parts.0, some_bits mask events m parts.1)
-  call_names_entries bodies blocks events takable line (call.ClearEvent mask) m e = some_bits mask events m e
-  call_names_entries bodies blocks events takable line (call.GetEvent task) m e = task_inside task bodies e
-  call_names_entries bodies blocks events takable line (call.WaitEvent mask) m e = some_bits mask events m e
-  call_names_entries bodies blocks events takable line (call.SetRelAlarm alarm increment cycle) m e = alarm_inside alarm e
-  call_names_entries bodies blocks events takable line (call.SetAbsAlarm alarm start cycle) m e = alarm_inside alarm e
-  call_names_entries bodies blocks events takable line (call.CancelAlarm alarm) m e = alarm_inside alarm e
-  call_names_entries bodies blocks events takable line (call.GetAlarm alarm) m e = alarm_inside alarm e
-  call_names_entries bodies blocks events takable line call.GetTaskId m e = tt
-  call_names_entries bodies blocks events takable line (call.GetTaskState task) m e = task_inside task bodies e
-  call_names_entries bodies blocks events takable line call.GetActiveApplicationMode m e = tt
-  call_names_entries bodies blocks events takable line (call.ShutdownOs _) m e = tt
-  call_names_entries bodies blocks events takable line (call.LockCall lock) m e = tt
+  call_names_entries bodies blocks events line (call.ClearEvent mask) m e = some_bits mask events m (declared_in line (call.ClearEvent mask) e)
+  call_names_entries bodies blocks events line (call.GetEvent task) m e = task_inside task bodies (declared_in line (call.GetEvent task) e)
+  call_names_entries bodies blocks events line (call.WaitEvent mask) m e = some_bits mask events m (declared_in line (call.WaitEvent mask) e)
+  call_names_entries bodies blocks events line (call.SetRelAlarm alarm increment cycle) m e = alarm_inside alarm (declared_in line (call.SetRelAlarm alarm increment cycle) e)
+  call_names_entries bodies blocks events line (call.SetAbsAlarm alarm start cycle) m e = alarm_inside alarm (declared_in line (call.SetAbsAlarm alarm start cycle) e)
+  call_names_entries bodies blocks events line (call.CancelAlarm alarm) m e = alarm_inside alarm (declared_in line (call.CancelAlarm alarm) e)
+  call_names_entries bodies blocks events line (call.GetAlarm alarm) m e = alarm_inside alarm (declared_in line (call.GetAlarm alarm) e)
+  call_names_entries bodies blocks events line call.GetTaskId m e = tt
+  call_names_entries bodies blocks events line (call.GetTaskState task) m e = task_inside task bodies (declared_in line (call.GetTaskState task) e)
+  call_names_entries bodies blocks events line call.GetActiveApplicationMode m e = tt
+  call_names_entries bodies blocks events line (call.ShutdownOs _) m e = tt
+  call_names_entries bodies blocks events line (call.LockCall lock) m e = tt
 
   -- a call is no end, and has one way on
   pub call_in_task : (c : Call) → IsTrue (task_may false (kind_of s c))

@@ -9,7 +9,8 @@ use Rattle.task_code.specs.declared.tree.{Body.{Body}, BodyKind.{BodyKind}}
 use Rattle.task_code.specs.declared.tree.BodyKind.TheVariants as body_kind
 use Rattle.task_code.specs.{Fit.{IsFit}, Statements.{closing_line, nodes}}
 use Rattle.block_graph.specs.{Apps.{tables_over}, Blocks.{block, blocks_of, body_blocks, end_kind, routine, routine_size, size, source_blocks, source_size}}
-use Rattle.block_graph.specs.Rules.{from_calls, of_resource, undeclared_in}
+use Rattle.block_graph.specs.Rules.{from_calls, of_resource}
+use Rattle.block_graph.proofs.OwnersCalls.{wrong_names}
 use Rattle.block_graph.proofs.OwnersEach.{AllFrom, all_from_append, all_from_at, all_from_weaker}
 use Rattle.block_graph.proofs.OwnersStatements.{Good, InIsr, InTask, IsGood, Lie, blocks_are_good, blocks_in_isr, blocks_in_task, blocks_length}
 use Rattle.block_graph.proofs.OwnersTicks.{GoesOn, InRoutine, due_below, expiries_length, routine_goes_on, routine_is_good, routine_stands}
@@ -65,7 +66,7 @@ body_each P s body n each last =
 
 -- a body at its place
 pub body_is_owner : (s : System) (bodies : List Body) (pre post : List Block) (body : Body) (n : ℕ) → length pre ≡ n
-    → IsLinkable s → IsFit body → from_calls (undeclared_in s) body.statements ≡ []
+    → IsLinkable s → IsFit body → from_calls (wrong_names s) body.statements ≡ []
     → IsOwner (tables_over s bodies (pre ++ (body_blocks s body n ++ post))) n (size body)
 body_is_owner s bodies pre post body n place linkable fit declared =
     let blocks = pre ++ (body_blocks s body n ++ post) in
@@ -73,7 +74,7 @@ body_is_owner s bodies pre post body n place linkable fit declared =
     let lie : Lie s bodies blocks n (size body) body.statements n end = (omega arith, omega arith, (omega arith, omega arith)) in
     owner_at s bodies pre (body_blocks s body n) post n (size body) place (body_size s body n) (omega arith)
     (body_each (Good s bodies blocks n (size body)) s body n
-    (blocks_are_good s bodies blocks n (size body) linkable.each_event linkable.takable body.statements n end [] lie fit.counts fit.masks declared)
+    (blocks_are_good s bodies blocks n (size body) linkable.each_event body.statements n end [] lie fit.counts fit.masks declared)
     (end_is_good s bodies blocks n (size body) body.kind (closing_line body.statements) end (omega arith) (omega arith)))
 
 -- Of a body only its closing brace stands last.
@@ -110,14 +111,14 @@ isr_each s body n isr no_resources =
     (subst (λ (k : BodyKind). IsTrue (isr_may (eqb (end + 1) (n + size body)) (end_kind k))) (sym isr) last)
 
 pub body_is_task_code : (s : System) (bodies : List Body) (pre post : List Block) (body : Body) (n : ℕ) → length pre ≡ n
-    → IsLinkable s → IsFit body → from_calls (undeclared_in s) body.statements ≡ [] → body.kind ≡ body_kind.Task
+    → IsLinkable s → IsFit body → from_calls (wrong_names s) body.statements ≡ [] → body.kind ≡ body_kind.Task
     → IsTaskCode (tables_over s bodies (pre ++ (body_blocks s body n ++ post))) n (size body)
 body_is_task_code s bodies pre post body n place linkable fit declared task = record {
   each = λ b m. all_from_at (TaskAt (n + size body)) n pre (body_blocks s body n) post place (task_each s body n task) b no_block m.0 (omega (arith, m.1, body_size s body n));
 }
 
 pub body_is_isr_code : (s : System) (bodies : List Body) (pre post : List Block) (body : Body) (n : ℕ) → length pre ≡ n
-    → IsLinkable s → IsFit body → from_calls (undeclared_in s) body.statements ≡ [] → body.kind ≡ body_kind.Isr → from_calls of_resource body.statements ≡ []
+    → IsLinkable s → IsFit body → from_calls (wrong_names s) body.statements ≡ [] → body.kind ≡ body_kind.Isr → from_calls of_resource body.statements ≡ []
     → IsIsrCode (tables_over s bodies (pre ++ (body_blocks s body n ++ post))) n (size body)
 body_is_isr_code s bodies pre post body n place linkable fit declared isr no_resources = record {
   each = λ b m. all_from_at (IsrAt (n + size body)) n pre (body_blocks s body n) post place (isr_each s body n isr no_resources) b no_block m.0 (omega (arith, m.1, body_size s body n));

@@ -1,14 +1,14 @@
 -- What the blocks of statements keep.
 use Rattle.std.proofs.Common.{◌≡◌, ℕ, ◌+◌, ◌<◌, ◌≤◌, false, List, [], ◌++◌, length, refl, arith, IsTrue, length-append}
-use Rattle.std.specs.Prelude.{All, not}
-use Rattle.oil_system.specs.declared.{system.{EventObject.{EventObject}, System.{System}}, objects.Resource.{Resource}}
+use Rattle.std.specs.Prelude.{All}
+use Rattle.oil_system.specs.declared.system.{EventObject.{EventObject}, System.{System}}
 use Rattle.osek_standard.specs.{declared.block.Block.{Block}, Validity.{IsAmong, IsBlock, isr_may, is_own_next, task_may}}
 use Rattle.task_code.specs.{declared.tree.{Body.{Body}, Condition.TheVariants.{Choice, Always}}, Fit.{HasCounts, HasMasks}}
 use Rattle.task_code.specs.Statements.{Statements, closed, work_then, if_then, if_else_then, while_then, call_then, nodes}
 use Rattle.task_code.proofs.FitLaws.{count_range}
 use Rattle.block_graph.specs.{declared.locks.Opener.{Opener}, Apps.{tables_over}, Blocks.{blocks_of, entry}, Locks.{open_behind, open_behind_call}}
-use Rattle.block_graph.specs.Rules.{from_calls, of_resource, undeclared_in}
-use Rattle.block_graph.proofs.{OwnersCalls.{both_empty, call_names_entries, call_in_task, call_in_isr, call_goes_on, call_has_one_way}, OwnersEach.{AllFrom, all_from_append}}
+use Rattle.block_graph.specs.Rules.{from_calls, of_resource}
+use Rattle.block_graph.proofs.{OwnersCalls.{both_empty, wrong_names, call_names_entries, call_in_task, call_in_isr, call_goes_on, call_has_one_way}, OwnersEach.{AllFrom, all_from_append}}
 
 -- each statement is a block
 pub blocks_length : (s : System) (xs : Statements) (n after : ℕ) (locks : List Opener) → length (blocks_of s xs n after locks) ≡ nodes xs
@@ -57,8 +57,8 @@ module _ (s : System) (bodies : List Body) (blocks : List Block) (first count : 
   abbrev pub Good : ℕ → Block → Type 0
   Good b x = IsGood s bodies blocks first count b x
 
-  module _ (events : All (λ (x : EventObject). 0 < x.mask.0) s.events) (takable : All (λ (x : Resource). IsTrue (not x.internal)) s.resources) where
-    pub blocks_are_good : (xs : Statements) (n after : ℕ) (locks : List Opener) → Lie xs n after → HasCounts xs → HasMasks xs → from_calls (undeclared_in s) xs ≡ []
+  module _ (events : All (λ (x : EventObject). 0 < x.mask.0) s.events) where
+    pub blocks_are_good : (xs : Statements) (n after : ℕ) (locks : List Opener) → Lie xs n after → HasCounts xs → HasMasks xs → from_calls (wrong_names s) xs ≡ []
         → AllFrom Good n (blocks_of s xs n after locks)
     blocks_are_good (closed line) n after locks lie counts masks declared = tt
     blocks_are_good (work_then line work next) n after locks lie counts masks declared =
@@ -71,7 +71,7 @@ module _ (s : System) (bodies : List Body) (blocks : List Block) (first count : 
         let rest : Lie next behind after = (omega arith, omega arith, lie.2) in
         let leaving : IsAmong out first count = entry_among next behind after rest in
         let inner : Lie branch start out = (omega arith, omega arith, leaving) in
-        let names = both_empty (from_calls (undeclared_in s) branch) (from_calls (undeclared_in s) next) declared in (
+        let names = both_empty (from_calls (wrong_names s) branch) (from_calls (wrong_names s) next) declared in (
           record { own_next = refl; is_block = record { operands = tt; next = entry_among branch start out inner; other = leaving } },
           all_from_append Good start (nodes branch) (blocks_of s branch start out locks) (blocks_of s next behind after locks) (blocks_length s branch start out locks)
               (blocks_are_good branch start out locks inner counts.0 masks.0 names.0)
@@ -83,8 +83,8 @@ module _ (s : System) (bodies : List Body) (blocks : List Block) (first count : 
         let leaving : IsAmong out first count = entry_among next behind after rest in
         let inner : Lie branch start out = (omega arith, omega arith, leaving) in
         let other : Lie otherwise second out = (omega arith, omega arith, leaving) in
-        let names = both_empty (from_calls (undeclared_in s) branch) (from_calls (undeclared_in s) otherwise ++ from_calls (undeclared_in s) next) declared in
-        let later = both_empty (from_calls (undeclared_in s) otherwise) (from_calls (undeclared_in s) next) names.1 in
+        let names = both_empty (from_calls (wrong_names s) branch) (from_calls (wrong_names s) otherwise ++ from_calls (wrong_names s) next) declared in
+        let later = both_empty (from_calls (wrong_names s) otherwise) (from_calls (wrong_names s) next) names.1 in
         let last = blocks_of s next behind after (open_behind branch locks) in (
           record { own_next = refl; is_block = record { operands = tt; next = entry_among branch start out inner; other = entry_among otherwise second out other } },
           all_from_append Good start (nodes branch) (blocks_of s branch start out locks) (blocks_of s otherwise second out locks ++ last) (blocks_length s branch start out locks)
@@ -97,7 +97,7 @@ module _ (s : System) (bodies : List Body) (blocks : List Block) (first count : 
         let start = n + 1 in let behind = start + nodes body in
         let rest : Lie next behind after = (omega arith, omega arith, lie.2) in
         let inner : Lie body start n = (omega arith, omega arith, (lie.0, omega arith)) in
-        let names = both_empty (from_calls (undeclared_in s) body) (from_calls (undeclared_in s) next) declared in (
+        let names = both_empty (from_calls (wrong_names s) body) (from_calls (wrong_names s) next) declared in (
           record { own_next = refl; is_block = record { operands = tt; next = entry_among body start n inner; other = entry_among next behind after rest } },
           all_from_append Good start (nodes body) (blocks_of s body start n locks) (blocks_of s next behind after locks) (blocks_length s body start n locks)
               (blocks_are_good body start n locks inner counts.0 masks.0 names.0)
@@ -107,7 +107,7 @@ module _ (s : System) (bodies : List Body) (blocks : List Block) (first count : 
         let start = n + 1 in let behind = start + nodes body in
         let rest : Lie next behind after = (omega arith, omega arith, lie.2) in
         let inner : Lie body start n = (omega arith, omega arith, (lie.0, omega arith)) in
-        let names = both_empty (from_calls (undeclared_in s) body) (from_calls (undeclared_in s) next) declared in (
+        let names = both_empty (from_calls (wrong_names s) body) (from_calls (wrong_names s) next) declared in (
           record { own_next = refl; is_block = record { operands = tt; next = entry_among body start n inner; other = tt } },
           all_from_append Good start (nodes body) (blocks_of s body start n locks) (blocks_of s next behind after locks) (blocks_length s body start n locks)
               (blocks_are_good body start n locks inner counts.0 masks.0 names.0)
@@ -115,11 +115,11 @@ module _ (s : System) (bodies : List Body) (blocks : List Block) (first count : 
         )
     blocks_are_good (call_then line call next) n after locks lie counts masks declared =
         let rest : Lie next (n + 1) after = (omega arith, omega arith, lie.2) in
-        let names = both_empty (undeclared_in s line call) (from_calls (undeclared_in s) next) declared in (
+        let names = both_empty (wrong_names s line call) (from_calls (wrong_names s) next) declared in (
           record {
             own_next = call_goes_on s n (entry next (n + 1) after) call;
             is_block = record {
-              operands = call_names_entries s bodies blocks events takable line call masks.0 names.0;
+              operands = call_names_entries s bodies blocks events line call masks.0 names.0;
               next = entry_among next (n + 1) after rest;
               other = call_has_one_way s (tables_over s bodies blocks) first count call;
             };

@@ -1,12 +1,13 @@
 -- The application of a linkable system and its code without a fault is valid.
 use Rattle.std.proofs.Common.{arith, ◌≡◌, ◌<◌, ◌≤◌, refl}
+use Rattle.std.specs.Prelude.{slice_index_or}
 use Rattle.osek_values.specs.declared.limits.TheConstants.{MAX_ACTIVATIONS}
 use Rattle.oil_system.specs.declared.system.System.{System}
-use Rattle.osek_standard.specs.{Validity.{IsValid, no_counter, IsClosed, IsInternal, greatest_interrupt_ceiling}, Versions.{FitsVersion1}}
+use Rattle.osek_standard.specs.Validity.{IsValid, no_counter, IsClosed, IsInternal, greatest_interrupt_ceiling}
 use Rattle.osek_standard.specs.declared.objects.{Task.{Task}, Isr.{Isr}}
 use Rattle.oil_model.specs.Linkable.{IsLinkable}
 use Rattle.task_code.specs.{declared.tree.Code.{Code}, Fit.{AreFit}}
-use Rattle.block_graph.specs.{Apps.{tables_over, tasks_of}, Blocks.{app_blocks, source_size}, Faults.{HasNoFault}}
+use Rattle.block_graph.specs.{Apps.{tables_over}, Blocks.{app_blocks, source_size}, Faults.{HasNoFault}}
 use Rattle.block_graph.proofs.{ExtentsApart.{apart as owners_apart}, ExtentsOwned.{owned as each_owned}, OwnersCalls.{task_count}}
 use Rattle.block_graph.proofs.ExtentsPlaces as places
 use Rattle.block_graph.proofs.ExtentsTables as tables
@@ -16,9 +17,8 @@ closed : (s : System) (code : Code) → IsLinkable s → IsClosed (tables_over s
 unfolding IsClosed
 closed s code linkable =
     let bodies = code.bodies in (
-      tables.each_task_is s bodies linkable (λ (x : Task). x.activation ≡ 1) (λ x e. refl),
-      linkable.takable,
-      (tables.each_isr_is s bodies linkable (λ (x : Isr). x.priority ≡ 0) (λ name e. refl), linkable.no_interrupt_ceilings),
+      tables.each_isr_is s bodies linkable (λ (x : Isr). x.priority ≡ 0) (λ name e. refl),
+      linkable.no_interrupt_ceilings,
     )
 
 pub valid : (s : System) (code : Code) → IsLinkable s → AreFit code → HasNoFault s code
@@ -44,9 +44,9 @@ valid s code linkable fit clean =
       each_task = places.each_task s code linkable fit clean;
       task_code = places.task_code s code linkable fit clean;
       task_starts = tables.task_starts s bodies linkable;
-      activations = tables.each_task_is s bodies linkable (λ (x : Task). (1 ≤ x.activation) × (x.activation ≤ MAX_ACTIVATIONS)) (λ x e. (omega arith, omega arith));
-      extended_once = tables.each_task_is s bodies linkable (λ (x : Task). 0 < x.own.0 → x.activation ≡ 1) (λ x e extended. refl);
-      internals = tables.each_task_is s bodies linkable (λ (x : Task). IsInternal (tables_over s bodies (app_blocks s bodies)) x.internal) (λ x e. tt);
+      activations = tables.each_task_keeps s bodies linkable (λ (x : Task). (1 ≤ x.activation) × (x.activation ≤ MAX_ACTIVATIONS)) linkable.activations;
+      extended_once = tables.each_task_keeps s bodies linkable (λ (x : Task). 0 < x.own.0 → x.activation ≡ 1) linkable.extended_once;
+      internals = tables.each_task_keeps s bodies linkable (λ (x : Task). IsInternal (tables_over s bodies (app_blocks s bodies)) x.internal) (λ k d lt. tables.internal_kept s bodies (app_blocks s bodies) (slice_index_or s.tasks k d).internal (linkable.internals k d lt));
       each_isr = places.each_isr s code linkable fit clean;
       isr_code = places.isr_code s code linkable fit clean;
       isr_priorities = tables.each_isr_is s bodies linkable (λ (x : Isr). x.priority < greatest_interrupt_ceiling) (λ name e. omega arith);
@@ -62,6 +62,3 @@ valid s code linkable fit clean =
       owned = each_owned s code clean;
       closed = closed s code linkable;
     }
-
-pub fits_version_1 : (s : System) (code : Code) → IsLinkable s → FitsVersion1 (tasks_of s code.bodies)
-fits_version_1 s code linkable = tables.version_1 s code.bodies linkable

@@ -1,5 +1,5 @@
 -- The application of a system and its task code.
-use Rattle.std.specs.Prelude.{◌≡◌, ℕ, ◌+◌, if◌then◌else◌, List, [], ◌∷◌, map, None}
+use Rattle.std.specs.Prelude.{◌≡◌, ℕ, ◌+◌, if◌then◌else◌, List, [], ◌∷◌, map}
 use Rattle.osek_values.specs.Numbers.{block_no}
 use Rattle.oil_system.specs.declared.system.{CounterObject.{CounterObject}, TaskObject.{TaskObject}, System.{System}}
 use Rattle.osek_standard.specs.{declared.{app.App.{App}, objects.{Counter.{Counter}, Isr.{Isr}, Task.{Task}}, block.Block.{Block}}, Tables.{Tables, tabled}, Validity.{due_of}}
@@ -12,8 +12,7 @@ abbrev pub extent : BodyKind → List ℕ → List Body → ℕ → ℕ × ℕ
 extent kind name [] n = (n, 0)
 extent kind name (body ∷ more) n = if is_code_of kind name body then (n, size body) else extent kind name more (n + size body)
 
--- A task's own event bits, priority and autostart are the system's. Each takes one activation at a time, and none names an
--- INTERNAL resource.
+-- A task's own event bits, priority, autostart, activations and INTERNAL resource are the system's.
 abbrev pub task_with : TaskObject → ℕ × ℕ → Task
 task_with x e = record {
   name = x.name;
@@ -23,8 +22,8 @@ task_with x e = record {
   autostart = x.autostart;
   first = block_no e.0;
   count = e.1;
-  activation = 1;
-  internal = None;
+  activation = x.activation;
+  internal = x.internal;
 }
 
 abbrev pub isr_with : List ℕ → ℕ × ℕ → Isr

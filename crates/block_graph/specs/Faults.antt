@@ -1,6 +1,6 @@
 -- The faults of a system and its task code, and the least of them.
 use Rattle.std.specs.Prelude.{ℕ, Option}
-use Rattle.osek_values.specs.declared.refusal.CodeRule.{CodeRule, TheVariants.{C1, C2, C3, C4, C6, C7, C8, C9}}
+use Rattle.osek_values.specs.declared.refusal.CodeRule.{CodeRule, TheVariants.{C1, C2, C3, C4, C6, C7, C8, C9, C10}}
 use Rattle.oil_system.specs.declared.system.System.{System}
 use Rattle.osek_values.specs.LeastFaults as faults
 use Rattle.task_code.specs.declared.tree.Code.{Code}
@@ -17,6 +17,7 @@ order C6 = 6
 order C7 = 7
 order C8 = 8
 order C9 = 9
+order C10 = 10
 
 abbrev pub HasNoFault : System → Code → Type 0
 HasNoFault s code = faults.HasNoFault order (λ (rule : CodeRule). lines rule s code)

@@ -1,8 +1,9 @@
 -- The rules on a system and its task code (this project's profile): on which lines each is violated.
 use Rattle.std.specs.Prelude.{ℕ, Bool, true, false, not, ◌||◌, ◌&&◌, if◌then◌else◌, is_some, List, [], ◌∷◌, ◌++◌, Option, Some, None, filter, map, drop}
 use Rattle.std.specs.{List.{list_any, flat_map}, Str.{bytes_eq}}
-use Rattle.osek_values.specs.declared.{limits.TheConstants.{MAX_SOURCE_BLOCKS}, refusal.CodeRule.{CodeRule, TheVariants.{C1, C2, C3, C4, C6, C7, C8, C9}}}
+use Rattle.osek_values.specs.declared.{limits.TheConstants.{MAX_SOURCE_BLOCKS}, refusal.CodeRule.{CodeRule, TheVariants.{C1, C2, C3, C4, C6, C7, C8, C9, C10}}}
 use Rattle.oil_system.specs.declared.system.{TaskObject.{TaskObject}, System.{System}}
+use Rattle.osek_standard.specs.Validity.{is_internal}
 use Rattle.oil_model.specs.Rules.{repeated}
 use Rattle.task_code.specs.declared.call.{Reference.{Reference}, Call.{Call}}
 use Rattle.task_code.specs.declared.call.Call.TheVariants as call
@@ -139,6 +140,23 @@ first_only (line ∷ others) = line ∷ []
 abbrev pub beyond_limit : List Body → List ℕ
 beyond_limit bodies = first_only (drop MAX_SOURCE_BLOCKS (block_lines bodies))
 
+-- C10: GetResource or ReleaseResource of an INTERNAL resource; on the line of its name
+module _ (s : System) where
+  abbrev pub internal_at : Option ℕ → ℕ → List ℕ
+  internal_at None line = []
+  internal_at (Some number) line = if is_internal s.resources number then line ∷ [] else []
+
+  abbrev pub internal_resource : Reference → List ℕ
+  internal_resource r = internal_at (resource_of s r.name) r.line
+
+  abbrev pub internal_in : ℕ → Call → List ℕ
+  internal_in line (call.GetResource resource) = internal_resource resource
+  internal_in line (call.ReleaseResource resource) = internal_resource resource
+  internal_in line _ = []
+
+  abbrev pub internal_resources : List Body → List ℕ
+  internal_resources bodies = flat_map (λ (body : Body). from_calls internal_in body.statements) bodies
+
 -- The lines on which a rule is violated. C9 is the reader's.
 abbrev pub lines : CodeRule → System → Code → List ℕ
 lines C1 s code = missing_code s code.bodies
@@ -149,3 +167,4 @@ lines C6 s code = isr_resources code.bodies
 lines C7 s code = unpaired_locks code.bodies
 lines C8 s code = beyond_limit code.bodies
 lines C9 s code = []
+lines C10 s code = internal_resources s code.bodies

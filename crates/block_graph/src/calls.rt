@@ -1,5 +1,7 @@
-//! The rules on calls: that the names in them are declared, and that no ISR takes or gives back a resource.
+//! The rules on calls: that the names in them are declared, that no ISR takes or gives back a resource, and no call an
+//! INTERNAL one.
 ghost use Rattle.std.specs.{Prelude.{◌≡◌, ℕ}, List.{flat_map}};
+ghost use Rattle.osek_standard.specs.Validity.{is_internal};
 ghost use Rattle.oil_model.specs.Lines.{sooner, least};
 ghost use Rattle.task_code.specs.{Statements.{Statements}, StatementLists.{statement_before}};
 ghost use Rattle.block_graph.specs.Rules as rules_of;
@@ -16,6 +18,8 @@ pub enum CallRule {
     Declared,
     /// That it neither takes nor gives back a resource.
     Resourceless,
+    /// That it neither takes nor gives back an INTERNAL resource.
+    Takable,
 }
 
 fn undeclared(number: Option<usize>, line: u32) -> Option<u32>
@@ -103,6 +107,42 @@ fn takes_or_gives(call: &Call) -> bool
     }
 }
 
+fn is_internal(system: &Declared, number: usize) -> bool
+    ensures { result ≡ is_internal system.now.resources number }
+{
+    let resources = system.system().resources.as_slice();
+    if number < resources.len() {
+        resources[number].internal
+    } else {
+        false
+    }
+}
+
+fn internal_at(system: &Declared, number: Option<usize>, line: u32) -> Option<u32>
+    ensures { result ≡ least (rules_of.internal_at system.now number line) }
+{
+    match number {
+        Some(number) => line_if(is_internal(system, number), line),
+        None => None,
+    }
+}
+
+fn internal(system: &Declared, resource: &Reference) -> Option<u32>
+    ensures { result ≡ least (rules_of.internal_resource system.now resource.now) }
+{
+    internal_at(system, system.resource_of(&resource.name), resource.line)
+}
+
+fn internal_in(system: &Declared, call: &Call) -> Option<u32>
+    ensures { (line : ℕ) → result ≡ least (rules_of.internal_in system.now line call.now) }
+{
+    match call {
+        Call::GetResource(resource) => internal(system, resource),
+        Call::ReleaseResource(resource) => internal(system, resource),
+        _ => None,
+    }
+}
+
 /// The least line on which a call violates the rule.
 fn least_of_call(rule: CallRule, system: &Declared, line: u32, call: &Call) -> Option<u32>
     ensures { result ≡ least (lines_of rule system.now line call.now) }
@@ -110,6 +150,7 @@ fn least_of_call(rule: CallRule, system: &Declared, line: u32, call: &Call) -> O
     match rule {
         CallRule::Declared => undeclared_in(system, call),
         CallRule::Resourceless => line_if(takes_or_gives(call), line),
+        CallRule::Takable => internal_in(system, call),
     }
 }
 
@@ -186,6 +227,20 @@ pub fn isr_resource(system: &Declared, bodies: &[Body]) -> Option<u32>
     let mut best = None;
     for body in bodies {
         best = sooner(best, isr_resource_of(system, body));
+    }
+    best
+}
+
+/// The least line of an INTERNAL resource that a call takes or gives back.
+pub fn internal_resource(system: &Declared, bodies: &[Body]) -> Option<u32>
+    ensures { result ≡ least (rules_of.internal_resources system.now bodies.now) }
+{
+    let mut best = None;
+    for body in bodies {
+        best = sooner(
+            best,
+            least_of_list(CallRule::Takable, system, &body.statements),
+        );
     }
     best
 }

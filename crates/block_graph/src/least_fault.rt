@@ -3,7 +3,7 @@ ghost use Rattle.std.specs.Prelude.{◌≡◌};
 ghost use Rattle.oil_model.specs.Lines.{least};
 ghost use Rattle.block_graph.specs.{Rules.{lines}, Faults.{IsLeastOrNone}};
 
-use crate::calls::{isr_resource, undeclared_name};
+use crate::calls::{internal_resource, isr_resource, undeclared_name};
 use crate::fault::LinkFault;
 use crate::names::Declared;
 use crate::owners::{missing_code, repeated_code, stray_code};
@@ -13,7 +13,7 @@ use osek_values::CodeRule;
 use task_code::Code;
 
 /// The rules that are judged here, in their order.
-const RULES: [CodeRule; 7] = [
+const RULES: [CodeRule; 8] = [
     CodeRule::C1,
     CodeRule::C2,
     CodeRule::C3,
@@ -21,6 +21,7 @@ const RULES: [CodeRule; 7] = [
     CodeRule::C6,
     CodeRule::C7,
     CodeRule::C8,
+    CodeRule::C10,
 ];
 
 /// The least line on which a rule is violated.
@@ -37,6 +38,7 @@ fn least_line(rule: CodeRule, system: &Declared, code: &Code) -> Option<u32>
         CodeRule::C7 => unpaired_lock(bodies),
         CodeRule::C8 => beyond_limit(bodies),
         CodeRule::C9 => None,
+        CodeRule::C10 => internal_resource(system, bodies),
     }
 }
 

@@ -1,6 +1,6 @@
 //! The application of a system and its code, or their least fault.
 ghost use Rattle.std.specs.Prelude.{◌≡◌, ◌≤◌, All, IfOk, Result, Ok, Err};
-ghost use Rattle.osek_standard.specs.{declared.app.App.{App}, Versions.{FitsVersion1}};
+ghost use Rattle.osek_standard.specs.declared.app.App.{App};
 ghost use Rattle.oil_system.specs.declared.system.System.{System};
 ghost use Rattle.oil_model.specs.Linkable.{IsLinkable};
 ghost use Rattle.task_code.specs.{declared.tree.Code.{Code}, Fit.{IsFit, AreFit}};
@@ -119,9 +119,6 @@ pub fn link(alloc: Global, system: System, code: &Code) -> Result<App, LinkError
 
     // and what is right is answered, unless memory runs out.
     ensures exact { (expected : Result App (LineFault CodeRule)) → IsAnswer expected system code.now → Answers result expected }
-
-    // An image of version 1 asks for no more.
-    ensures version_1 { IfOk result (λ app. FitsVersion1 app.tasks) }
 {
     answer(alloc, system, code)
 }

@@ -53,8 +53,8 @@ fn task(alloc: Global, declared: &TaskObject, bodies: &[Body]) -> Result<Task, M
         autostart: declared.autostart,
         first: block_no(extent.0),
         count: narrow(extent.1),
-        activation: 1,
-        internal: None,
+        activation: declared.activation,
+        internal: declared.internal,
     })
 }
 

@@ -1,7 +1,6 @@
 //! The image of an application by a table.
 ghost use Rattle.std.specs.Prelude.{◌≡◌, ◌<◌, ℕ, List, length, map, IfOk};
 ghost use Rattle.osek_values.specs.declared.{event.Event.{Event}, numbers.ModeNo.{ModeNo}};
-ghost use Rattle.osek_standard.specs.Versions.{FitsVersion1};
 ghost use Rattle.image_model.specs.declared.image.Version.TheVariants as version;
 ghost use Rattle.image_model.specs.Laws.{IsKernelsRun};
 ghost use Rattle.abstract_state.specs.{Tables.{Inductive, sets_of}, Written.{IsWritten}, Forms.{HasDictatedForms, HasDictatedStatuses}};
@@ -18,7 +17,6 @@ use std::alloc::Global;
 /// the table is inductive it runs as the kernel.
 pub fn tailor(alloc: Global, app: App, table: &Table) -> Result<Image, Memory>
     requires written { IsWritten app table.now }
-    requires version { FitsVersion1 app.tasks }
     ensures version { IfOk result (λ i. i.version ≡ version.Two) }
     ensures app { IfOk result (λ i. i.app ≡ app) }
     ensures forms { IfOk result (HasDictatedForms (sets_of table.now)) }

@@ -4,7 +4,7 @@ use crate::rows::{Act, Row};
 /// Rows of refusals at the edge, of limits and of modes.
 pub const MODE_ROWS: [Row; 10] = [
     Row {
-        name: "a missing and a doubled priority",
+        name: "a missing and a shared priority",
         files: &[
             (
                 "a.oil",
@@ -18,11 +18,11 @@ pub const MODE_ROWS: [Row; 10] = [
         ],
         acts: &[
             Act::Run(&["build", "a.oil", "a.c", "x"], 1, "", "a.oil:5: O4\n"),
-            Act::Run(&["build", "b.oil", "a.c", "x"], 1, "", "b.oil:4: O8\n"),
+            Act::Run(&["build", "b.oil", "a.c", "x"], 0, "", ""),
         ],
     },
     Row {
-        name: "a missing and a doubled priority, without the code file",
+        name: "a missing and a shared priority, without the code file",
         files: &[
             (
                 "a.oil",
@@ -35,7 +35,7 @@ pub const MODE_ROWS: [Row; 10] = [
         ],
         acts: &[
             Act::Run(&["build", "a.oil", "a.c", "x"], 1, "", "a.oil:5: O4\n"),
-            Act::Run(&["build", "b.oil", "a.c", "x"], 1, "", "b.oil:4: O8\n"),
+            Act::Run(&["build", "b.oil", "a.c", "x"], 5, "", "a.c: read\n"),
         ],
     },
     Row {
@@ -161,7 +161,7 @@ pub const MODE_ROWS: [Row; 10] = [
 ];
 
 /// Rows of texts that are refused, and of their limits.
-pub const TEXT_ROWS: [Row; 9] = [
+pub const TEXT_ROWS: [Row; 8] = [
     Row {
         name: "a COM object",
         files: &[
@@ -249,16 +249,5 @@ pub const TEXT_ROWS: [Row; 9] = [
             ),
         ],
         acts: &[Act::Run(&["build", "a.oil", "a.c", "x"], 1, "", "a.c:33: S3\n")],
-    },
-    Row {
-        name: "two activations before their time",
-        files: &[
-            (
-                "a.oil",
-                "CPU c { OS os; TASK T1 { PRIORITY = 1; ACTIVATION = 2; }; };",
-            ),
-            ("a.c", "TASK(T1) { }\n"),
-        ],
-        acts: &[Act::Run(&["build", "a.oil", "a.c", "x"], 1, "", "a.oil:1: O9\n")],
     },
 ];

@@ -4,6 +4,8 @@
 #[cfg(test)]
 mod acting;
 #[cfg(test)]
+mod activation_rows;
+#[cfg(test)]
 mod certificate_rows;
 #[cfg(test)]
 mod edge_rows;
@@ -20,6 +22,10 @@ mod flow_rows;
 #[cfg(test)]
 mod gen_rows;
 #[cfg(test)]
+mod group_certificates;
+#[cfg(test)]
+mod group_rows;
+#[cfg(test)]
 mod hostile_images;
 #[cfg(test)]
 mod image_runs;
@@ -29,6 +35,8 @@ mod kind_rows;
 mod long_inputs;
 #[cfg(test)]
 mod long_rows;
+#[cfg(test)]
+mod priority_rows;
 #[cfg(test)]
 mod real_files;
 #[cfg(test)]

@@ -2,13 +2,17 @@
 use crate::acting::{
     Wanted, all_hold, first_wrong, gives, keeps, put_files, put_places, row_holds,
 };
+use crate::activation_rows::ACTIVATION_ROWS;
 use crate::certificate_rows::CERTIFICATE_ROWS;
 use crate::edge_rows::{MODE_ROWS, TEXT_ROWS};
 use crate::event_rows::EVENT_ROWS;
 use crate::example_rows::EXAMPLE_ROWS;
 use crate::flow_rows::FLOW_ROWS;
 use crate::gen_rows::GEN_ROWS;
+use crate::group_certificates::GROUP_CERTIFICATES;
+use crate::group_rows::GROUP_ROWS;
 use crate::kind_rows::KIND_ROWS;
+use crate::priority_rows::PRIORITY_ROWS;
 use crate::record_rows::RECORD_ROWS;
 use crate::report_rows::REPORT_ROWS;
 use crate::rows::{Act, Row};
@@ -20,6 +24,21 @@ use std::alloc::Global;
 #[test]
 fn the_rows_of_tasks(rt: HostRuntime) {
     assert_eq!(rt; first_wrong(rt.alloc(), &TASK_ROWS), Ok(""));
+}
+
+#[test]
+fn the_rows_of_activations(rt: HostRuntime) {
+    assert_eq!(rt; first_wrong(rt.alloc(), &ACTIVATION_ROWS), Ok(""));
+}
+
+#[test]
+fn the_rows_of_shared_priorities(rt: HostRuntime) {
+    assert_eq!(rt; first_wrong(rt.alloc(), &PRIORITY_ROWS), Ok(""));
+}
+
+#[test]
+fn the_rows_of_groups(rt: HostRuntime) {
+    assert_eq!(rt; first_wrong(rt.alloc(), &GROUP_ROWS), Ok(""));
 }
 
 #[test]
@@ -45,6 +64,7 @@ fn the_rows_of_the_analysis(rt: HostRuntime) {
 #[test]
 fn the_rows_of_certificates(rt: HostRuntime) {
     assert_eq!(rt; first_wrong(rt.alloc(), &CERTIFICATE_ROWS), Ok(""));
+    assert_eq!(rt; first_wrong(rt.alloc(), &GROUP_CERTIFICATES), Ok(""));
 }
 
 #[test]
@@ -128,6 +148,9 @@ fn first_uncertified(alloc: Global, rows: &[Row]) -> Result<&'static str, Memory
 #[test]
 fn what_rows_build_is_certified_and_checked(rt: HostRuntime) {
     assert_eq!(rt; first_uncertified(rt.alloc(), &TASK_ROWS), Ok(""));
+    assert_eq!(rt; first_uncertified(rt.alloc(), &ACTIVATION_ROWS), Ok(""));
+    assert_eq!(rt; first_uncertified(rt.alloc(), &PRIORITY_ROWS), Ok(""));
+    assert_eq!(rt; first_uncertified(rt.alloc(), &GROUP_ROWS), Ok(""));
     assert_eq!(rt; first_uncertified(rt.alloc(), &EVENT_ROWS), Ok(""));
     assert_eq!(rt; first_uncertified(rt.alloc(), &MODE_ROWS), Ok(""));
     assert_eq!(rt; first_uncertified(rt.alloc(), &TEXT_ROWS), Ok(""));
@@ -183,6 +206,9 @@ fn first_with_alarm(alloc: Global, rows: &[Row]) -> Result<&'static str, Memory>
 #[test]
 fn records_of_runs_are_quiet(rt: HostRuntime) {
     assert_eq!(rt; first_with_alarm(rt.alloc(), &TASK_ROWS), Ok(""));
+    assert_eq!(rt; first_with_alarm(rt.alloc(), &ACTIVATION_ROWS), Ok(""));
+    assert_eq!(rt; first_with_alarm(rt.alloc(), &PRIORITY_ROWS), Ok(""));
+    assert_eq!(rt; first_with_alarm(rt.alloc(), &GROUP_ROWS), Ok(""));
     assert_eq!(rt; first_with_alarm(rt.alloc(), &EVENT_ROWS), Ok(""));
     assert_eq!(rt; first_with_alarm(rt.alloc(), &MODE_ROWS), Ok(""));
     assert_eq!(rt; first_with_alarm(rt.alloc(), &TEXT_ROWS), Ok(""));

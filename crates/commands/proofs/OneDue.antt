@@ -1,7 +1,7 @@
 -- One answer is due at most.
 use Rattle.abstract_state.specs.{declared.table.PlainTable.{PlainTable}, Tables.{sets_of}}
-use Rattle.table_codec.specs.{declared.fault.TableFault.{TableFault}, Faults.{IsFirstFault}, Spelling.{spelling as table_spelling}}
-use Rattle.table_codec.proofs.TableFaults.{spelled_once, no_first_fault, one_first_fault}
+use Rattle.table_codec.specs.{declared.fault.TableFault.{TableFault}, Faults.{IsFirstFault}, Spelling.{spelling as table_spelling, IsSpellable}}
+use Rattle.table_codec.proofs.{ShortTables.{short_is_spellable}, TableFaults.{spelled_once, no_first_fault, one_first_fault}}
 use Rattle.flow_check.specs.declared.verdict.Verdict.{Verdict}
 use Rattle.flow_check.specs.declared.verdict.Verdict.TheVariants as verdict
 use Rattle.flow_check.proofs.VerdictLaws.{one_verdict}
@@ -86,13 +86,16 @@ module _ (files : Files) where
 
   -- a table, and what is said of it and an image
   module _ (app : App) where
+    told : (b : List ℕ) (t : PlainTable) → SpellTable app b t → IsSpellable app t
+    told b t x = short_is_spellable app t x.written (omega (arith, x.within, ap (λ (l : List ℕ). length l) x.spelled))
+
     same_table : (b c : List ℕ) (t u : PlainTable) → b ≡ c → SpellTable app b t → SpellTable app c u → t ≡ u
-    same_table b c t u e x y = (spelled_once app t u [] [] x.written y.written (ap (λ (l : List ℕ). l ++ []) (x.spelled ∙ e ∙ sym y.spelled))).0
+    same_table b c t u e x y = (spelled_once app t u [] [] (told b t x) (told c u y) (ap (λ (l : List ℕ). l ++ []) (x.spelled ∙ e ∙ sym y.spelled))).0
 
     -- bytes that spell a table have no fault
     no_table_fault : (b c : List ℕ) (t : PlainTable) (f : TableFault) → b ≡ c → SpellTable app b t → IsTableFault app c f → ⊥
     no_table_fault b c t f e x (inl (over, is)) = let within = subst (λ (l : List ℕ). length l ≤ MAX_TABLE) e x.within in omega (arith, over, within)
-    no_table_fault b c t f e x (inr (within, first)) = no_first_fault app t f x.written (subst (λ (l : List ℕ). IsFirstFault app l f) (sym (x.spelled ∙ e)) first)
+    no_table_fault b c t f e x (inr (within, first)) = no_first_fault app t f (told b t x) (subst (λ (l : List ℕ). IsFirstFault app l f) (sym (x.spelled ∙ e)) first)
 
     same_table_fault : (b c : List ℕ) (f g : TableFault) → b ≡ c → IsTableFault app b f → IsTableFault app c g → f ≡ g
     same_table_fault b c f g e (inl (over, x)) (inl (more, y)) = x ∙ sym y

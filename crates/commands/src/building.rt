@@ -1,6 +1,5 @@
 //! The command `build`: the image of an application.
 ghost use Rattle.std.specs.Prelude.{IfOk};
-ghost use Rattle.osek_standard.specs.Versions.{FitsVersion1};
 ghost use Rattle.commands.specs.{Building.{BuildAnswers, SpellsFitted}, Fitting.{IsFitted}};
 ghost use Rattle.osek_io.specs.Sunk.{Sunk};
 ghost use Rattle.command_runs.specs.Outside.{beside, told};
@@ -17,7 +16,6 @@ use std::alloc::Global;
 
 /// The image that is fitted to an application.
 fn image_of(alloc: Global, app: App) -> Result<Image, Memory>
-    requires { FitsVersion1 app.tasks }
     ensures { IfOk result (IsFitted app) }
 {
     let table = least_table(alloc, &app)?;
@@ -28,7 +26,6 @@ fn image_of(alloc: Global, app: App) -> Result<Image, Memory>
 
 /// The bytes of that image.
 fn image_bytes(alloc: Global, app: App) -> Result<Vec<u8>, Memory>
-    requires { FitsVersion1 app.tasks }
     ensures { IfOk result (λ v. SpellsFitted app v.items) }
 {
     let image = image_of(alloc, app)?;

@@ -1,7 +1,6 @@
 //! The command `certify`: the image of an application, and the table that shows that it is the kernel.
 ghost use Rattle.std.specs.Prelude.{◌≡◌, ◌≤◌, length, Err, IfOk};
 ghost use Rattle.osek_values.specs.declared.limits.TheConstants.{MAX_TABLE};
-ghost use Rattle.osek_standard.specs.Versions.{FitsVersion1};
 ghost use Rattle.osek_io.specs.Sunk.{Sunk};
 ghost use Rattle.table_codec.specs.declared.fault.WriteFault.TheVariants as a_fault;
 ghost use Rattle.table_codec.specs.Spelling.{spelling as table_spelling};
@@ -32,7 +31,6 @@ fn beside_image(
     solved: &Table,
     table: Vec<u8>,
 ) -> Result<Certified, Memory>
-    requires version { FitsVersion1 app.tasks }
     requires least { IsLeastTable app solved.now }
     requires spelled { table.items ≡ table_spelling app solved.now }
     requires within { length table.items ≤ MAX_TABLE }
@@ -45,7 +43,6 @@ fn beside_image(
 
 /// The bytes of both. The table is written before the image is made, since it may be over its limit.
 fn certified_bytes(alloc: Global, app: App) -> Result<Certified, WriteFault>
-    requires { FitsVersion1 app.tasks }
     ensures bytes { IfOk result (λ x. SpellCertified app x.image.items x.table.items) }
     ensures too_long { result ≡ Err a_fault.TooLong → IsTableTooLong app }
 {

@@ -2,7 +2,6 @@
 ghost use Rattle.std.specs.Prelude.{◌≡◌, IfOk, IfErr, OnOk};
 ghost use Rattle.oil_model.specs.Linkable.{IsLinkable};
 ghost use Rattle.osek_io.specs.{Counts.{Same}, Reads.{OnlyReads}};
-ghost use Rattle.osek_standard.specs.Versions.{FitsVersion1};
 ghost use Rattle.front_end.specs.Texts.{DeclaresSystem, GivesApp};
 ghost use Rattle.command_runs.specs.{Inputs.{OfFile}, Outside.{told}};
 ghost use Rattle.commands.specs.Compiling.{OfApp, SystemStops, CodeStops, CompileStops};
@@ -42,7 +41,6 @@ fn load_code<F: Shelf>(
 ) -> Result<App, Stop>
     requires { IsLinkable system }
     ensures app { IfOk result (λ a. OfFile (F.contents shelf.old) code.now (λ b. GivesApp system b a)) }
-    ensures version_1 { IfOk result (λ a. FitsVersion1 a.tasks) }
     ensures stop { IfErr result (CodeStops (told F.Shelf shelf.old) (told F.Shelf shelf.new) system code.now) }
     ensures same { OnlyReads F.Shelf shelf.old shelf.new }
     ensures no_fault { OnOk result (Same (F.read_faults shelf.old) (F.read_faults shelf.new)) }
@@ -64,7 +62,6 @@ fn load_code<F: Shelf>(
 /// The application of the two texts. The OIL text is read and judged before the task code is read.
 pub fn compile<F: Shelf>(alloc: Global, shelf: &mut F, oil: &str, code: &str) -> Result<App, Stop>
     ensures app { IfOk result (λ a. OfApp (F.contents shelf.old) oil.now code.now (λ app. app ≡ a)) }
-    ensures version_1 { IfOk result (λ a. FitsVersion1 a.tasks) }
     ensures stop { IfErr result (CompileStops (told F.Shelf shelf.old) (told F.Shelf shelf.new) oil.now code.now) }
     ensures same { OnlyReads F.Shelf shelf.old shelf.new }
     ensures no_fault { OnOk result (Same (F.read_faults shelf.old) (F.read_faults shelf.new)) }

@@ -1,6 +1,5 @@
 //! The image of an application, fitted to it by its least table of possible states.
 ghost use Rattle.std.specs.Prelude.{◌≡◌, ◌<◌, IfOk};
-ghost use Rattle.osek_standard.specs.Versions.{FitsVersion1};
 ghost use Rattle.abstract_state.specs.{Forms.{HasDictatedForms, HasDictatedStatuses}, Tables.{sets_of}};
 ghost use Rattle.commands.specs.Fitting.{IsLeastTable, IsFitted};
 
@@ -36,7 +35,6 @@ pub fn least_table(alloc: Global, app: &App) -> Result<Table, Memory>
 
 /// The image of an application in which each call site has the form and the known status that the least table dictates.
 pub fn fitted(alloc: Global, app: App, table: &Table) -> Result<Image, Memory>
-    requires version { FitsVersion1 app.tasks }
     requires table { IsLeastTable app table.now }
     ensures fitted { IfOk result (IsFitted app) }
     ensures forms { IfOk result (HasDictatedForms (sets_of table.now)) }

@@ -2,7 +2,6 @@
 ghost use Rattle.std.specs.Prelude.{◌≡◌, ◌⊎◌, ◌≤◌, ◌<◌, length, Some, Err, IfOk, IfErr};
 ghost use Rattle.osek_values.specs.declared.limits.TheConstants.{MAX_TASKS};
 ghost use Rattle.osek_io.specs.{Files.{Files}, Sunk.{sunk}};
-ghost use Rattle.osek_standard.specs.Versions.{FitsVersion1};
 ghost use Rattle.flow_text.specs.GeneratedLine.{text_size, gen_line};
 ghost use Rattle.command_runs.specs.declared.stop.Stop.TheVariants as a_stop;
 ghost use Rattle.commands.specs.{Due.{OwnDue}, Fitting.{IsKernelImage}, GeneratedFiles.{text_files, generated_files, own_stop as the_own_stop}};
@@ -83,7 +82,6 @@ fn generated_shelf(alloc: Global, seed: u64, tasks: u32) -> Result<MemShelf, Mem
 
 /// The image that is fitted to an application, and the counts of its analysis.
 fn analyze(alloc: Global, app: App) -> Result<Analyzed, Memory>
-    requires version { FitsVersion1 app.tasks }
     ensures image { IfOk result (λ x. IsKernelImage app x.image) }
     ensures counts { IfOk result (λ x. AreLeastCounts app x.counts) }
 {

@@ -1,6 +1,6 @@
 //! The command `show`: what the least table of an application dictates.
 ghost use Rattle.std.specs.Prelude.{◌≡◌, ◌≤◌, All, length, IfOk, OnOk, OnErr};
-ghost use Rattle.osek_standard.specs.{Points.{IsPoint}, Versions.{FitsVersion1}};
+ghost use Rattle.osek_standard.specs.Points.{IsPoint};
 ghost use Rattle.abstract_state.specs.declared.edge.FlowEdge.{FlowEdge as AnEdge};
 ghost use Rattle.osek_io.specs.Reads.{OnlyReads};
 ghost use Rattle.flow_text.specs.Texts.{show_text};
@@ -37,7 +37,6 @@ pub struct Dictated {
 }
 
 fn derive_by(alloc: Global, app: App, table: &Table) -> Result<Dictated, Memory>
-    requires version { FitsVersion1 app.tasks }
     requires table { IsLeastTable app table.now }
     ensures { IfOk result (IsDictated app) }
 {
@@ -53,7 +52,6 @@ fn derive_by(alloc: Global, app: App, table: &Table) -> Result<Dictated, Memory>
 
 /// What the least table of an application dictates.
 fn derive(alloc: Global, app: App) -> Result<Dictated, Memory>
-    requires version { FitsVersion1 app.tasks }
     ensures { IfOk result (IsDictated app) }
 {
     let table = least_table(alloc, &app)?;

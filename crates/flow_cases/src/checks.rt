@@ -1,7 +1,6 @@
 //! What is said of the images that are tailored to worked applications, and of their general images, with the least tables,
 //! and the bytes of these tables.
 ghost use Rattle.std.specs.Prelude.{◌≡◌, ◌<◌, IfOk};
-ghost use Rattle.osek_standard.specs.Versions.{FitsVersion1};
 ghost use Rattle.abstract_state.specs.Written.{IsWritten};
 
 use crate::table_bytes::{least_bytes, refusal};
@@ -59,9 +58,7 @@ enum Kind {
     General,
 }
 
-fn read(alloc: Global, case: &Case) -> Result<App, TextError>
-    ensures { IfOk result (λ app. FitsVersion1 app.tasks) }
-{
+fn read(alloc: Global, case: &Case) -> Result<App, TextError> {
     let system = read_system(alloc, case.oil)?;
     read_app(alloc, system, case.code)
 }
@@ -69,7 +66,6 @@ fn read(alloc: Global, case: &Case) -> Result<App, TextError>
 /// The image of an application by its table, or the general one.
 fn image_of(alloc: Global, app: App, table: &Table, kind: Kind) -> Result<Image, Memory>
     requires written { IsWritten app table.now }
-    requires version { FitsVersion1 app.tasks }
     ensures { IfOk result (λ image. image.app ≡ app) }
 {
     match kind {
@@ -83,7 +79,6 @@ fn said_by<L: Ledger>(alloc: Global, app: App, kind: Kind, blank: Blank) -> Resu
     requires name { blank.name ≡ L.name }
     requires parts { blank.parts ≡ L.parts }
     requires some { 0 < L.parts }
-    requires version { FitsVersion1 app.tasks }
 {
     let mut steps = Steps::<L>::of(blank);
     let table = solve(alloc, &app, &mut steps)?;

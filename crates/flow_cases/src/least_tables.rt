@@ -54,7 +54,7 @@ struct Case {
 }
 
 /// Worked out state by state from the kernel's rules, without rules or sets of this program.
-const CASES: [Case; 7] = [
+const CASES: [Case; 11] = [
     // nothing declared: the point of the start has an entry of no value
     Case {
         oil: b"CPU c { OS os; };",
@@ -103,6 +103,34 @@ const CASES: [Case; 7] = [
         code: b"TASK(T1) { GetResource(R); ActivateTask(T3); ReleaseResource(R); TerminateTask(); } TASK(T2) { GetResource(R); ActivateTask(T3); ReleaseResource(R); TerminateTask(); } TASK(T3) { TerminateTask(); }",
         entries: 10,
         values: 37,
+    },
+    // a preempted task goes before another of its priority, by the values also one that waits for its turn
+    Case {
+        oil: b"CPU c { OS os; TASK T1 { PRIORITY = 1; AUTOSTART = TRUE; }; TASK T2 { PRIORITY = 1; }; TASK T3 { PRIORITY = 2; }; };",
+        code: b"TASK(T1) { ActivateTask(T2); ActivateTask(T3); } TASK(T2) {  } TASK(T3) {  }",
+        entries: 6,
+        values: 20,
+    },
+    // a task is full by its activations, or since it waits
+    Case {
+        oil: b"CPU c { OS os; EVENT E; TASK T1 { PRIORITY = 2; AUTOSTART = TRUE; }; TASK T2 { PRIORITY = 1; ACTIVATION = 2; }; TASK T3 { PRIORITY = 3; AUTOSTART = TRUE; EVENT = E; }; };",
+        code: b"TASK(T1) { ActivateTask(T2); ActivateTask(T2); ActivateTask(T2); ActivateTask(T3); TerminateTask(); } TASK(T2) { TerminateTask(); } TASK(T3) { WaitEvent(E); }",
+        entries: 8,
+        values: 33,
+    },
+    // a task ends with a resource, and begins anew without it
+    Case {
+        oil: b"CPU c { OS os; RESOURCE R; TASK T1 { PRIORITY = 1; ACTIVATION = 2; AUTOSTART = TRUE; RESOURCE = R; }; TASK T2 { PRIORITY = 2; RESOURCE = R; }; };",
+        code: b"TASK(T1) { GetResource(R); ActivateTask(T1); ActivateTask(T2); } TASK(T2) {  }",
+        entries: 5,
+        values: 10,
+    },
+    // a refused Schedule keeps the INTERNAL resource
+    Case {
+        oil: b"CPU c { OS os; RESOURCE G { RESOURCEPROPERTY = INTERNAL; }; RESOURCE R; TASK T1 { PRIORITY = 1; AUTOSTART = TRUE; RESOURCE = G; RESOURCE = R; }; TASK T2 { PRIORITY = 2; RESOURCE = G; }; };",
+        code: b"TASK(T1) { GetResource(R); ActivateTask(T2); Schedule(); ReleaseResource(R); TerminateTask(); } TASK(T2) { TerminateTask(); }",
+        entries: 7,
+        values: 14,
     },
 ];
 

@@ -14,7 +14,8 @@ use std::test::*;
 
 // ---- a table as text
 
-// l0: Live at block 0; l0+R1: and it holds resource 1; w4: it waits at block 4; -: suspended, idle or not set; +: armed or set
+// l0: Live at block 0; l0*2: with two further activations; l0+G: inside its INTERNAL resource; l0+R1: and it holds resource 1; w4: it waits at block
+// 4; -: suspended, idle or not set; +: armed or set
 fn push_value(alloc: Global, value: &PartValue, text: &mut String) -> Result<(), Memory> {
     match value {
         PartValue::OfTask(Val::Suspended) => text.push_str("-")?,
@@ -30,6 +31,12 @@ fn push_value(alloc: Global, value: &PartValue, text: &mut String) -> Result<(),
 
 fn push_live(alloc: Global, live: &LiveVal, text: &mut String) -> Result<(), Memory> {
     text.push_str(format!(in alloc; "l{}", live.block.0)?.as_str())?;
+    if live.further > 0 {
+        text.push_str(format!(in alloc; "*{}", live.further)?.as_str())?;
+    }
+    if live.inside {
+        text.push_str("+G")?;
+    }
     for resource in live.held.as_slice() {
         text.push_str(format!(in alloc; "+R{}", resource.0)?.as_str())?;
     }
@@ -168,6 +175,73 @@ fn two_alarms_at_one_tick(rt: HostRuntime) {
         b6 over t1: l0; l2 l3; - +; - +; - +;\n\
         b7 over t0: l0; - l2 l3 w2; - +; - +; - +;\n\
         b7 over t1: l0; l2 l3; - +; - +; - +;\n\
+    ";
+    assert!(rt; is_least_table(rt.alloc(), oil, code, wanted));
+}
+
+// the first one may wait behind the second task, or before it
+#[test]
+fn activations_of_one_priority(rt: HostRuntime) {
+    let oil =
+        b"CPU c { OS os; TASK T1 { PRIORITY = 1; ACTIVATION = 2; AUTOSTART = TRUE; }; TASK T2 { PRIORITY = 1; }; };";
+    let code =
+        b"TASK(T1) { ActivateTask(T2); ActivateTask(T1); TerminateTask(); } TASK(T2) { TerminateTask(); }";
+    let wanted = "\
+        b0: l0; - l4;\n\
+        b1: l1; l4;\n\
+        b2: l2*1; l4;\n\
+        b4: l0; l4;\n\
+    ";
+    assert!(rt; is_least_table(rt.alloc(), oil, code, wanted));
+}
+
+#[test]
+fn activations_of_a_chain_to_itself(rt: HostRuntime) {
+    let oil =
+        b"CPU c { OS os; TASK T1 { PRIORITY = 1; ACTIVATION = 3; AUTOSTART = TRUE; }; TASK T2 { PRIORITY = 1; AUTOSTART = TRUE; }; };";
+    let code = b"TASK(T1) { ActivateTask(T1); ChainTask(T1); } TASK(T2) { TerminateTask(); }";
+    let wanted = "\
+        b0: l0 l0*1 l0*2; - l3;\n\
+        b1: l1*1 l1*2; - l3;\n\
+        b3: l0*1 l0*2; l3;\n\
+    ";
+    assert!(rt; is_least_table(rt.alloc(), oil, code, wanted));
+}
+
+#[test]
+fn an_internal_resource_is_given_back_at_schedule(rt: HostRuntime) {
+    let oil =
+        b"CPU c { OS os; RESOURCE G { RESOURCEPROPERTY = INTERNAL; }; TASK T1 { PRIORITY = 1; AUTOSTART = TRUE; RESOURCE = G; }; TASK T2 { PRIORITY = 2; }; TASK T3 { PRIORITY = 3; RESOURCE = G; }; TASK T4 { PRIORITY = 4; }; };";
+    let code =
+        b"TASK(T1) { ActivateTask(T2); ActivateTask(T4); Schedule(); ActivateTask(T3); TerminateTask(); } TASK(T2) { TerminateTask(); } TASK(T3) { TerminateTask(); } TASK(T4) { TerminateTask(); }";
+    let wanted = "\
+        idle: -; -; -; -;\n\
+        b0: l0+G; -; -; -;\n\
+        b1: l1+G; l6; -; -;\n\
+        b2: l2+G; l6; -; -;\n\
+        b3: l3+G; -; -; -;\n\
+        b4: l4+G; -; l8; -;\n\
+        b6: l3; l6; -; -;\n\
+        b8: -; -; l8+G; -;\n\
+        b10: l2+G; l6; -; l10;\n\
+    ";
+    assert!(rt; is_least_table(rt.alloc(), oil, code, wanted));
+}
+
+// it is inside again where it is dispatched
+#[test]
+fn a_woken_task_is_outside(rt: HostRuntime) {
+    let oil =
+        b"CPU c { OS os; RESOURCE G { RESOURCEPROPERTY = INTERNAL; }; EVENT E; TASK T1 { PRIORITY = 2; AUTOSTART = TRUE; RESOURCE = G; EVENT = E; }; TASK T2 { PRIORITY = 1; AUTOSTART = TRUE; RESOURCE = G; }; };";
+    let code =
+        b"TASK(T1) { WaitEvent(E); TerminateTask(); } TASK(T2) { SetEvent(T1, E); Schedule(); TerminateTask(); }";
+    let wanted = "\
+        idle: -; -; +;\n\
+        b0: l0+G; l3; -;\n\
+        b1: l1+G; l5; +;\n\
+        b3: w0; l3+G; -;\n\
+        b4: l1; l4+G; +;\n\
+        b5: -; l5+G; +;\n\
     ";
     assert!(rt; is_least_table(rt.alloc(), oil, code, wanted));
 }

@@ -1,6 +1,6 @@
 //! Lines that are printed of a worked application and of its images.
-ghost use Rattle.std.specs.Prelude.{◌≡◌, ◌<◌, ◌≤◌, length, IfOk, IfSome};
-ghost use Rattle.osek_standard.specs.{Points.{IsPoint}, Versions.{FitsVersion1}};
+ghost use Rattle.std.specs.Prelude.{◌≡◌, ◌<◌, ◌≤◌, length, IfSome};
+ghost use Rattle.osek_standard.specs.Points.{IsPoint};
 ghost use Rattle.image_model.specs.Sites.{IsForm};
 
 use abstract_state::{FlowEdge, Point};
@@ -144,9 +144,7 @@ fn is_info_line(image: &Image, want: &[u8]) -> bool {
     &buf[..length] == want
 }
 
-fn is_told_of_general(alloc: Global, app: App, want: &[u8]) -> Result<bool, Memory>
-    requires { FitsVersion1 app.tasks }
-{
+fn is_told_of_general(alloc: Global, app: App, want: &[u8]) -> Result<bool, Memory> {
     let image = general(alloc, app)?;
     let told = is_info_line(&image, want);
     drop(image);
@@ -179,7 +177,6 @@ fn is_told_by<L: Ledger>(alloc: Global, app: App, want: &[u8], blank: Blank) -> 
     requires name { blank.name ≡ L.name }
     requires parts { blank.parts ≡ L.parts }
     requires some { 0 < L.parts }
-    requires version { FitsVersion1 app.tasks }
 {
     let mut steps = Steps::<L>::of(blank);
     let table = solve(alloc, &app, &mut steps)?;
@@ -190,9 +187,7 @@ fn is_told_by<L: Ledger>(alloc: Global, app: App, want: &[u8], blank: Blank) -> 
     Ok(told)
 }
 
-fn read(alloc: Global) -> Result<App, TextError>
-    ensures { IfOk result (λ app. FitsVersion1 app.tasks) }
-{
+fn read(alloc: Global) -> Result<App, TextError> {
     let system = read_system(alloc, OIL)?;
     read_app(alloc, system, CODE)
 }

@@ -1,5 +1,5 @@
 -- The cases of the end of a routine are its effects.
-use Rattle.std.proofs.{Common.{◌≡◌, ℕ, ◌<◌, Bool, [], ◌∷◌, length, refl, sym, ap, subst, ◌∙◌, arith, Some, None}, lemmas.Bool.{false≢true}}
+use Rattle.std.proofs.{Common.{◌≡◌, ℕ, ◌<◌, Bool, [], ◌∷◌, length, refl, sym, ap, ◌∙◌, arith, Some, None}, lemmas.Bool.{false≢true}}
 use Rattle.std.specs.declared.option.Option.{Option}
 use Rattle.osek_values.specs.declared.numbers.{TaskNo.{TaskNo}, BlockNo.{BlockNo}, SourceNo.{SourceNo}}
 use Rattle.osek_values.specs.declared.status.Ask.TheVariants as ask
@@ -9,22 +9,20 @@ use Rattle.osek_standard.specs.declared.block.Kind.TheVariants as kind
 use Rattle.osek_standard.specs.declared.state.{State.{State}, Processor.{Processor}}
 use Rattle.osek_standard.specs.declared.state.Source.TheVariants as source
 use Rattle.osek_standard.specs.declared.state.Processor.TheVariants as processor
-use Rattle.osek_standard.specs.declared.point.Point.TheVariants as point
-use Rattle.osek_standard.specs.{Apps.{the_task, the_block}, States.{is_in, task_state, with_processor, with_source, place_in}, Services.{unnoted}, Levels.{next_routine}}
-use Rattle.osek_standard.specs.{Effects.{effect, noted, asked_over, given_back, returned_by, returned_to}, Well.{AreOut, HasProcessor, IsProcessor, IsRoutine}}
+use Rattle.osek_standard.specs.{Apps.{the_task, the_block}, States.{is_in, with_processor, with_source}, Services.{unnoted}, Levels.{next_routine}}
+use Rattle.osek_standard.specs.{Effects.{effect, noted, asked_over, given_back, returned_by, returned_to}, Well.{AreOut}}
 use Rattle.osek_standard.proofs.NestLaws.{next_is}
-use Rattle.abstract_state.specs.{declared.value.{Component.{Component}, Val.{Val}, PartValue.{PartValue}}, Concrete.{val_of}}
+use Rattle.abstract_state.specs.declared.value.Component.{Component}
 use Rattle.abstract_state.specs.declared.value.Component.TheVariants as component
-use Rattle.abstract_state.specs.Components.{component_at, part_of, abstract_of}
+use Rattle.abstract_state.specs.Components.{component_at, part_of}
 use Rattle.abstract_state.proofs.AloneLaws.{ended_out}
 use Rattle.flow_model.specs.declared.case.Asked.TheVariants as asked
 use Rattle.flow_model.specs.declared.runner.Runner.{Runner}
 use Rattle.flow_model.specs.declared.runner.Runner.TheVariants as runner
-use Rattle.flow_model.specs.{Runners.{Stands, OwnsBlock, runner_point}, Values.{block_of}, Effects.{Asks, AreCasesOf}, Cases.{asked_under}}
+use Rattle.flow_model.specs.{Runners.{Stands, OwnsBlock, runner_point}, Effects.{Asks, AreCasesOf}, Cases.{asked_under}}
 use Rattle.flow_model.proofs.{Instructions.{effect_there}, Calls.{has_effect, same_line}}
 use Rattle.flow_effects.specs.Returns.{goes_back, leaves_idle, return_cases}
-use Rattle.flow_services.proofs.Seeing.{task_value}
-use Rattle.flow_effects.proofs.{Listed.{IsEffect}, TaskValues.{live_value}, MoveCases.{one_case, idle_cases}}
+use Rattle.flow_effects.proofs.{Listed.{IsEffect}, MoveCases.{one_case, idle_cases}}
 
 -- a source that is out, and another processor, change no component
 back_parts : (s : State) (k : ℕ) (p : Processor) (c : Component) → part_of (with_processor (with_source s k source.Out) p) c ≡ part_of s c
@@ -68,25 +66,11 @@ module _ (app : App) (b : BlockNo) (is : (the_block app b.0).kind ≡ kind.IsrEn
     abbrev r : Runner
     r = runner.Routine k (Some t)
 
-    known : t.0 < length app.tasks
-    known = owns.task
-
-    -- the interrupted task is Live
-    interrupted : (s : State) → Stands app s r b → HasProcessor app s t
-    interrupted s h = let has : IsRoutine app s k (Some t) = subst (IsProcessor app s) h.runs.runs h.well.processor in has.over
-
-    -- and stands at the block of its value
-    stands_there : (s : State) → Stands app s r b → point.Task (block_of (val_of (abstract_of app s t.0))) ≡ point.Task (place_in (task_state s t.0).activity).block
-    stands_there s h =
-        ap (λ (v : PartValue). point.Task (block_of (val_of v))) (task_value app s t.0 known)
-        ∙ ap (λ (v : Val). point.Task (block_of v)) (live_value (place_in (task_state s t.0).activity).block (task_state s t.0).activity (interrupted s h).1 refl)
-
     returns : IsEffect app r b (goes_back app t)
     returns s choice h passing =
         let after : State = with_source s k.0 source.Out in
         has_effect app (goes_back app t) s choice (noted app (unnoted (with_processor after (processor.Running t)) (asked_over (the_task app t.0).schedule)))
-        (gives_back k (Some t) s choice h) passing
-        (sym (ap (λ (v : PartValue). point.Task (block_of (val_of v))) (back_parts s k.0 (processor.Running t) (component_at app t.0)) ∙ stands_there s h))
+        (gives_back k (Some t) s choice h) passing refl
         (λ c lt. back_parts s k.0 (processor.Running t) (component_at app c))
         (asks_over app after t (the_task app t.0).schedule)
         (same_line (asked_under t (the_task app t.0).schedule) s (with_processor after (processor.Running t)) refl) refl

@@ -194,7 +194,7 @@ module _ (app : App) (p : Point) (entry : PlainEntry) (exits : List Exit) (is : 
             event = Run y.choice;
             at = at_values s m.before y.has m.within;
             target = r.target ∙ sym k.target;
-            parts = λ c lt. r.parts c lt ∙ k.settles c;
+            parts = λ c lt. r.parts c lt ∙ k.settles c lt;
             shows = r.shows ∙ sym (exit_marks x o.decision k.effect.leaving.status o.decides k.status);
             status = r.status ∙ sym k.status;
           });

@@ -21,6 +21,7 @@ use Rattle.flow_model.specs.declared.case.Decision.TheVariants as decision
 use Rattle.flow_model.specs.{Values.{is_live_value, occupied_by, block_of, value_priority}, Effects.{Asks, LeavesLine, IsLineAfter}}
 use Rattle.flow_model.specs.Scheduling.{outcome_of_decision, may_tie, is_live_task, task_priority, IsLiveTask, IsBestTask, NoneLive, NoneAbove, IsAbove, Decides, DecidesBy, end_point}
 use Rattle.flow_exits.specs.Deciding.{HasValues, GoesFirst, IsKernelDecision}
+use Rattle.flow_exits.proofs.Staying.{block_value}
 use Rattle.flow_exits.proofs.LinePlaces.{place_behind, place_within, place_before, place_of_itself, behind_first}
 
 -- what a table keeps of a task tells whether it is Live, its priority, and its block
@@ -28,11 +29,6 @@ live_value : (a : Activity) → is_live_value (value_in a) ≡ is_live_activity 
 live_value activity.Suspended = refl
 live_value (activity.Live x) = refl
 live_value (activity.Waiting b) = refl
-
-block_value : (a : Activity) → block_of (value_in a) ≡ (place_in a).block
-block_value activity.Suspended = refl
-block_value (activity.Live x) = refl
-block_value (activity.Waiting b) = refl
 
 occupied_value : (app : App) (u : ℕ) (x : TaskState) (a : Activity) → occupied_by app u (value_in a) ≡ occupied app u (record x { activity = a })
 occupied_value app u x activity.Suspended = refl

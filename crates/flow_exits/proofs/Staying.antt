@@ -1,14 +1,61 @@
--- Where the processor stays goes by the components.
-use Rattle.std.proofs.Common.{◌≡◌, ℕ, ◌<◌, refl, ap}
-use Rattle.osek_standard.specs.declared.app.App.{App}
+-- Where the processor stays, and who has it then.
+use Rattle.std.proofs.Common.{◌≡◌, ℕ, ◌<◌, length, refl, sym, ap, subst, ◌∙◌, inl, inr}
+use Rattle.std.specs.Prelude.{◌==◌}
+use Rattle.std.proofs.lemmas.Bool.{cases_Bool, cases_eq, eq-eqb, ne_eqb}
+use Rattle.osek_values.specs.declared.numbers.{TaskNo.{TaskNo}, BlockNo.{BlockNo}}
+use Rattle.osek_standard.specs.{declared.{app.App.{App}, state.{State.{State}, Processor.{Processor}}, task_state.Activity.{Activity}}}
+use Rattle.osek_standard.specs.declared.task_state.Activity.TheVariants as activity
+use Rattle.osek_standard.specs.declared.state.Processor.TheVariants as processor
+use Rattle.osek_standard.specs.declared.point.Point.{Point}
 use Rattle.osek_standard.specs.declared.point.Point.TheVariants as point
-use Rattle.abstract_state.specs.{declared.value.PartValue.{PartValue}, Components.{component_count}, Concrete.{val_of}}
-use Rattle.flow_model.specs.declared.case.Stay.{Stay}
+use Rattle.osek_standard.specs.{States.{is_that_task, task_state, place_by, place_in}, Points.{point_at, point_of}, Well.{Well, IsOwn}}
+use Rattle.osek_standard.proofs.OwnerLaws.{own_once}
+use Rattle.abstract_state.specs.{declared.value.PartValue.{PartValue}, Components.{abstract_of, part_of, value_in}, Concrete.{val_of}, Settling.{running_task}}
+use Rattle.abstract_state.proofs.ComponentLaws.{task_at_its_number, task_counted}
+use Rattle.flow_model.specs.declared.case.{Stay.{Stay}, Decision.TheVariants.{Keep}}
 use Rattle.flow_model.specs.declared.case.Stay.TheVariants as stay
-use Rattle.flow_model.specs.{Values.{block_of}, Effects.{stay_point, IsKnownStay}}
-use Rattle.abstract_state.proofs.ComponentLaws.{task_counted}
+use Rattle.flow_model.specs.{Values.{block_of}, Effects.{StaysAt, stay_point, IsKnownStay}, Scheduling.{has_it_after, is_at_task}}
+use Rattle.flow_model.proofs.{SettledValues.{own_within, within_own}, Standing.{stands_at}}
+use Rattle.flow_exits.specs.Deciding.{HasValues}
 
--- where the processor stays goes by the components' values alone
-pub same_stay : (app : App) (x : Stay) (value other : ℕ → PartValue) → IsKnownStay app x → ((c : ℕ) → c < component_count app → value c ≡ other c) → stay_point x value ≡ stay_point x other
-same_stay app (stay.At p) value other known same = refl
-same_stay app (stay.AtBlockOf t) value other known same = ap (λ (v : PartValue). point.Task (block_of (val_of v))) (same t.0 (task_counted app t.0 known))
+pub block_value : (a : Activity) → block_of (value_in a) ≡ (place_in a).block
+block_value activity.Suspended = refl
+block_value (activity.Live x) = refl
+block_value (activity.Waiting b) = refl
+
+-- the point where it stays is that of the values
+pub stays_point : (app : App) (s : State) (x : Stay) (value : ℕ → PartValue) → IsKnownStay app x → HasValues app s value → StaysAt x s → point_of s ≡ stay_point x value
+stays_point app s (stay.At p) value known same h = h
+stays_point app s (stay.AtBlockOf t) value known same h =
+    ap (λ (p : Processor). point_at (place_by s p).block p) h
+    ∙ ap point.Task (sym (ap (λ (v : PartValue). block_of (val_of v)) (same t.0 (task_counted app t.0 known) ∙ ap (part_of s) (task_at_its_number app t.0 known)) ∙ block_value (task_state s t.0).activity))
+
+module _ (app : App) (u : ℕ) (known : u < length app.tasks) where
+  -- a task that stands at a block of its own
+  owner_is : (t : TaskNo) (b : BlockNo) → t.0 < length app.tasks → IsOwn app t.0 b.0 → (t.0 == u) ≡ is_at_task app (point.Task b) u
+  owner_is t b there own = elim (cases_eq t.0 u) [
+    | inl same ↦ eq-eqb t.0 u same ∙ sym (own_within app u b (subst (λ (v : ℕ). IsOwn app v b.0) same own))
+    | inr differs ↦ elim (cases_Bool (is_at_task app (point.Task b) u)) [
+      | inl e ↦ absurd (differs (own_once app t.0 u b.0 there known own (within_own app u b e)))
+      | inr e ↦ ne_eqb t.0 u differs ∙ sym e
+    ]
+  ]
+
+  module _ (s : State) (w : Well app s) where
+    same_task : {v t : TaskNo} → processor.Running v ≡ processor.Running t → v ≡ t
+    same_task e = cc
+
+    runner_at : (p : Processor) → s.processor ≡ p → is_that_task (running_task p) u ≡ is_at_task app (point_at (place_by s p).block p) u
+    runner_at processor.Halted e = refl
+    runner_at processor.Idle e = refl
+    runner_at (processor.Running t) e =
+        let b = (place_in (task_state s t.0).activity).block in
+        let h = stands_at app s b w (ap (λ (p : Processor). point_at (place_by s p).block p) e) in
+        let is : h.0 ≡ t = same_task (sym h.1.runs.runs ∙ e) in
+        owner_is t b (subst (λ (v : TaskNo). v.0 < length app.tasks) is h.1.runs.has.0) (subst (λ (v : TaskNo). IsOwn app v.0 b.0) is h.1.runs.own)
+    runner_at (processor.Interrupted k over) e = refl
+
+    -- who has the processor, where it stays
+    pub runner_stays : (x : Stay) → StaysAt x s → is_that_task (running_task s.processor) u ≡ has_it_after app x Keep u
+    runner_stays (stay.At p) h = runner_at s.processor refl ∙ ap (λ (q : Point). is_at_task app q u) h
+    runner_stays (stay.AtBlockOf t) h = ap (λ (p : Processor). is_that_task (running_task p) u) h

@@ -17,7 +17,7 @@ pub record IsSettled (app : App) (leaving : Leaving) (after : PlainEntry) (x : E
   pub within : AreIn app after before
   pub decides : Decides app before leaving d
   pub target : x.target ≡ end_point app before (stay_point leaving.stay before) d
-  pub settles : (c : ℕ) → settled_values app leaving.asked d before c ≡ value c
+  pub settles : (c : ℕ) → c < component_count app → settled_values app leaving.stay d before c ≡ value c
 
 -- All values of the exit's components come of values of the entry after an effect with which the scheduler decides as the exit
 -- says.
@@ -34,7 +34,7 @@ pub record HasDecided (app : App) (leaving : Leaving) (exits : List Exit) (d : D
   pub listed : Contains exits exit
   pub decision : exit.decision ≡ Some d
   pub status : exit.status ≡ leaving.status
-  pub within : AreIn app exit.entry (settled_values app leaving.asked d value)
+  pub within : AreIn app exit.entry (settled_values app leaving.stay d value)
   pub target : exit.target ≡ end_point app value (stay_point leaving.stay value) d
 
 -- These exits come to others: they are decided with values after the effect, and whatever is decided is one's.
@@ -66,7 +66,7 @@ pub record ComesOf (app : App) (effects : List EffectCase) (entry : PlainEntry) 
   pub made : IsMadeBy app (effect_rule effect) entry after
   pub decides : Decides app after effect.leaving d
   pub target : x.target ≡ end_point app after (stay_point effect.leaving.stay after) d
-  pub settles : (c : ℕ) → settled_values app effect.leaving.asked d after c ≡ value c
+  pub settles : (c : ℕ) → c < component_count app → settled_values app effect.leaving.stay d after c ≡ value c
   pub status : x.status ≡ effect.leaving.status
 
 -- The exit is that of these effects.

@@ -9,7 +9,7 @@ use Rattle.osek_values.specs.declared.numbers.{TaskNo.{TaskNo}, BlockNo.{BlockNo
 use Rattle.oil_system.specs.declared.objects.Schedule.{Schedule, TheVariants.{Non, Full}}
 use Rattle.osek_standard.specs.declared.{app.App.{App}, block.{Block.{Block}, Kind.{Kind}}, state.{State.{State}, Processor.{Processor}, Caller.TheVariants.{Task}}}
 use Rattle.osek_standard.specs.declared.state.Processor.TheVariants as processor
-use Rattle.osek_standard.specs.{declared.task_state.Place.{Place}, Apps.{the_task, the_block}, States.{caller, here}, Points.{point_of}, Services.{Answer, answer}}
+use Rattle.osek_standard.specs.{declared.task_state.Place.{Place}, Apps.{the_task, the_block}, States.{caller, here}, Services.{Answer, answer}}
 use Rattle.osek_standard.specs.Effects.{Effect, effect, effect_at, place_at, effected, noted, asks_as, asked_by, asked_under, is_schedule, called, moved, moved_by, moved_to}
 use Rattle.osek_standard.proofs.BoolLaws.{either_way}
 use Rattle.abstract_state.specs.Components.{component_count, abstract_of}
@@ -17,7 +17,7 @@ use Rattle.flow_model.specs.declared.case.{Asked.{Asked}, EffectCase.{EffectCase
 use Rattle.flow_model.specs.declared.case.Asked.TheVariants as asked
 use Rattle.flow_model.specs.declared.runner.Runner.{Runner}
 use Rattle.flow_model.specs.declared.runner.Runner.TheVariants as runner
-use Rattle.flow_model.specs.{Runners.{Stands, Runs}, Tests.{PassesAll, value_after}, Effects.{Asks, HasEffect, IsLineAfter, LeavesLine, stay_point}, declared.test.Condition.{Condition}}
+use Rattle.flow_model.specs.{Runners.{Stands, Runs}, Tests.{PassesAll, value_after}, Effects.{Asks, HasEffect, IsLineAfter, LeavesLine, StaysAt}, declared.test.Condition.{Condition}}
 use Rattle.flow_model.specs.Cases.{asked_when, asked_for, asked_after, asked_under as asked_of_task, goes_on}
 use Rattle.flow_model.proofs.{Standing.{next_owned, point_there}, Instructions.{effect_there}, LinesAfter.{line_stays}, Moves.{moved_parts, went_on}}
 
@@ -93,12 +93,12 @@ pub moved_line : (s : State) (to : Place) → (moved s to).line ≡ s.line
 moved_line s to = moved_line_by s to s.processor
 
 -- an effect that is known is the case's, where it leaves, asks and notes what the case says
-pub has_effect : (app : App) (x : EffectCase) (s : State) (choice : Bool) (e : Effect) → effect app s choice ≡ e → PassesAll app x.conditions (abstract_of app s) → point_of e.state ≡ stay_point x.leaving.stay (abstract_of app e.state) →
+pub has_effect : (app : App) (x : EffectCase) (s : State) (choice : Bool) (e : Effect) → effect app s choice ≡ e → PassesAll app x.conditions (abstract_of app s) → StaysAt x.leaving.stay e.state →
     ((c : ℕ) → c < component_count app → abstract_of app e.state c ≡ value_after x.changes c (abstract_of app s c)) → Asks x.leaving.asked e → LeavesLine x.leaving.asked x.leaving.last s e.state → e.notes.status ≡ x.leaving.status →
     HasEffect app x s choice
 has_effect app x s choice e is passing point parts asks line status = record {
   passes = passing;
-  point = subst (λ (f : Effect). point_of f.state ≡ stay_point x.leaving.stay (abstract_of app f.state)) (sym is) point;
+  point = subst (λ (f : Effect). StaysAt x.leaving.stay f.state) (sym is) point;
   parts = λ c lt. ap (λ (f : Effect). abstract_of app f.state c) is ∙ parts c lt;
   asks = subst (Asks x.leaving.asked) (sym is) asks;
   line = subst (λ (f : Effect). LeavesLine x.leaving.asked x.leaving.last s f.state) (sym is) line;
@@ -107,7 +107,7 @@ has_effect app x s choice e is passing point parts asks line status = record {
 
 -- what an answer says of the effect, where the case is this
 pub record HasAnswer (app : App) (x : EffectCase) (s : State) (r : Runner) (k : Kind) (a : Answer) : Type 0 where
-  pub point : point_of a.state ≡ stay_point x.leaving.stay (abstract_of app a.state)
+  pub point : StaysAt x.leaving.stay a.state
   pub parts : (c : ℕ) → c < component_count app → abstract_of app a.state c ≡ value_after x.changes c (abstract_of app s c)
   pub asked : asked_for app r k a.ask ≡ x.leaving.asked
   pub kept : KeepsOrLeaves a.ask s a.state

@@ -1,4 +1,5 @@
 pub mod ChangeLaws
+pub mod SettledValues
 pub mod BitsOf
 pub mod Writes
 pub mod Activations

@@ -35,6 +35,11 @@ Asks (asked.Maybe t) e = (e.ask ≡ ask.Maybe) × (e.state.processor ≡ process
 Asks asked.Left e = (e.ask ≡ ask.Left) × (e.state.processor ≡ processor.Idle)
 Asks asked.Free e = (e.ask ≡ ask.Free) × (e.state.processor ≡ processor.Idle)
 
+-- it stays there in this state
+abbrev pub StaysAt : Stay → State → Type 0
+StaysAt (stay.At p) s = point_of s ≡ p
+StaysAt (stay.AtBlockOf t) s = s.processor ≡ processor.Running t
+
 -- where the processor stands if it stays, with these values after the effect
 abbrev pub stay_point : Stay → (ℕ → PartValue) → Point
 stay_point (stay.At p) value = p
@@ -68,7 +73,7 @@ LeavesLine asked.Free last before after = IsLineAfter last before after
 -- components, leaves the processor where it stays and the line as it says, asks what it asks, and notes its status.
 pub record HasEffect (app : App) (x : EffectCase) (s : State) (choice : Bool) : Type 0 where
   pub passes : PassesAll app x.conditions (abstract_of app s)
-  pub point : point_of (effect app s choice).state ≡ stay_point x.leaving.stay (abstract_of app (effect app s choice).state)
+  pub point : StaysAt x.leaving.stay (effect app s choice).state
   pub parts : (c : ℕ) → c < component_count app → abstract_of app (effect app s choice).state c ≡ value_after x.changes c (abstract_of app s c)
   pub asks : Asks x.leaving.asked (effect app s choice)
   pub line : LeavesLine x.leaving.asked x.leaving.last s (effect app s choice).state

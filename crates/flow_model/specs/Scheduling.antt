@@ -1,14 +1,18 @@
 -- The scheduler by the values of the tasks: what it may do after an effect, and what the cases of that say.
-use Rattle.std.specs.{Prelude.{◌≡◌, ◌≢◌, ◌⊎◌, ⊤, ℕ, ◌<◌, ◌≤◌, Bool, not, List, length, IsTrue, Some, None, Contains}, declared.option.Option.{Option}}
+use Rattle.std.specs.Prelude.{◌≡◌, ◌≢◌, ◌⊎◌, ⊤, ℕ, ◌<◌, ◌≤◌, ◌==◌, ◌&&◌, Bool, false, not, if◌then◌else◌, List, length, map, filter, IsTrue, Some, None, is_some, Contains}
+use Rattle.std.specs.{List.{range_with_len}, declared.option.Option.{Option}}
 use Rattle.osek_values.specs.declared.numbers.TaskNo.{TaskNo}
 use Rattle.osek_standard.specs.declared.{app.App.{App}, point.Point.{Point}}
 use Rattle.osek_standard.specs.declared.point.Point.TheVariants as point
-use Rattle.osek_standard.specs.{States.{is_that_task}, Dispatch.{Outcome, Keep, To}}
+use Rattle.osek_standard.specs.{Apps.{the_task}, Validity.{is_within}, States.{is_that_task}, Internal.{internal_of}, Dispatch.{Outcome, Keep, To}}
 use Rattle.abstract_state.specs.{declared.{value.PartValue.{PartValue}, table.PlainEntry.{PlainEntry}}, Concrete.{AreAllowed, val_of}}
-use Rattle.flow_model.specs.declared.case.{Asked.{Asked}, Decision.{Decision}, EffectCase.{EffectCase}, Leaving.{Leaving}, OutcomeCase.{OutcomeCase}}
+use Rattle.flow_model.specs.declared.case.{Asked.{Asked}, Decision.{Decision}, EffectCase.{EffectCase}, Leaving.{Leaving}, OutcomeCase.{OutcomeCase}, Stay.{Stay}}
 use Rattle.flow_model.specs.declared.case.Asked.TheVariants as asked
 use Rattle.flow_model.specs.declared.case.Decision.TheVariants as decision
-use Rattle.flow_model.specs.{Values.{is_live_value, block_of, value_priority}, Tests.{PassesAll, values_after}, Effects.{AreIn, stay_point}}
+use Rattle.flow_model.specs.declared.case.Stay.TheVariants as stay
+use Rattle.flow_model.specs.declared.change.Change.{Change}
+use Rattle.flow_model.specs.declared.change.Update.TheVariants as update
+use Rattle.flow_model.specs.{Values.{is_live_value, block_of, value_priority}, Runners.{change}, Tests.{updated, PassesAll, values_after}, Effects.{AreIn, stay_point}}
 
 abbrev pub outcome_of_decision : Decision → Outcome
 outcome_of_decision decision.Keep = Keep
@@ -75,13 +79,35 @@ module _ (app : App) (value : ℕ → PartValue) where
   end_point p (decision.To None) = point.Idle
   end_point p (decision.To (Some w)) = point.Task (block_of (val_of (value w.0)))
 
--- What becomes of the value of component c by what the scheduler decides, where this was asked: it stays as it is.
-abbrev pub settled_value : App → Asked → Decision → ℕ → PartValue → PartValue
-settled_value app asked d c v = v
+-- the point is at a block of task c
+abbrev pub is_at_task : App → Point → ℕ → Bool
+is_at_task app point.Halted c = false
+is_at_task app point.Idle c = false
+is_at_task app (point.Task b) c = is_within b.0 ((the_task app c).first.0, (the_task app c).count)
+is_at_task app (point.Routine b over) c = false
+
+-- task c has the processor after this decision, where it else stays there
+abbrev pub has_it_after : App → Stay → Decision → ℕ → Bool
+has_it_after app x (decision.To o) c = is_that_task o c
+has_it_after app (stay.At p) decision.Keep c = is_at_task app p c
+has_it_after app (stay.AtBlockOf t) decision.Keep c = t.0 == c
+
+-- it has, and names an INTERNAL resource
+abbrev pub goes_inside : App → Stay → Decision → ℕ → Bool
+goes_inside app x d c = has_it_after app x d c && is_some (internal_of app c)
+
+-- What becomes of the value of component c by what the scheduler decides: who has the processor then is inside where it names
+-- an INTERNAL resource.
+abbrev pub settled_value : App → Stay → Decision → ℕ → PartValue → PartValue
+settled_value app x d c v = if goes_inside app x d c then updated update.Inside v else v
 
 -- the values of all components after the decision
-abbrev pub settled_values : App → Asked → Decision → (ℕ → PartValue) → ℕ → PartValue
-settled_values app asked d value c = settled_value app asked d c (value c)
+abbrev pub settled_values : App → Stay → Decision → (ℕ → PartValue) → ℕ → PartValue
+settled_values app x d value c = settled_value app x d c (value c)
+
+-- the changes that make these of them
+abbrev pub settling : App → Stay → Decision → List Change
+settling app x d = map (λ (t : ℕ). change t update.Inside) (filter (goes_inside app x d) (range_with_len 0 (length app.tasks)))
 
 -- a value for each component, out of its set, with which it can be at the point
 pub record AreValuesOf (app : App) (p : Point) (entry : PlainEntry) (value : ℕ → PartValue) : Type 0 where

@@ -5,12 +5,12 @@ use Rattle.std.proofs.lemmas.List.{take_more, Elements.{Contains-append_left, Co
 use Rattle.osek_standard.specs.declared.app.App.{App}
 use Rattle.osek_standard.proofs.Members.{among_contained, contained_among}
 use Rattle.abstract_state.specs.{declared.table.PlainEntry.{PlainEntry}, Components.{component_count}}
-use Rattle.flow_model.specs.{declared.case.{EffectCase.{EffectCase}, Leaving.{Leaving}}, Rules.{Applies, HasNone}}
+use Rattle.flow_model.specs.{declared.case.EffectCase.{EffectCase}, Rules.{Applies, HasNone}}
 use Rattle.numbered_sets.specs.{declared.numbered_entry.NumberedEntry.{NumberedEntry}, Pools.{Values, IsLonger}, Views.{plain_entry}}
 use Rattle.numbered_sets.proofs.NumberingLaws.{longer_onward}
 use Rattle.flow_exits.specs.{declared.exit.Exit.{Exit}, Leaving.{IsOfEffects, HasExitsFor, AddsDecided, effect_rule}}
 use Rattle.flow_exits.proofs.AfterEffect.{decided_comes, decisions_covered, nothing_taken}
-use Rattle.flow_rules.specs.{declared.group.ExitGroup.{ExitGroup}, Groups.{all_exits, AreKnownGroups}, Deciding.{AddsFor, IsAny}, Leaving.{AddsEffects}}
+use Rattle.flow_rules.specs.{declared.group.ExitGroup.{ExitGroup}, Groups.{all_exits, AreKnownGroups}, Leaving.{AddsEffects}}
 use Rattle.flow_rules.proofs.GrowingPools.{exits_same, groups_known}
 
 -- an exit of some effects is one of more effects
@@ -36,11 +36,6 @@ still_for : (app : App) (effect : EffectCase) (entry : PlainEntry) (some more : 
 still_for app effect entry some more onward h value d within passes decides =
     let x = h value d within passes decides in
     record { exit = x.exit; listed = onward x.exit x.listed; decision = x.decision; status = x.status; within = x.within; target = x.target }
-
--- all that is decided with the values after an effect
-pub all_decided : (app : App) (pool : List Values) (leaving : Leaving) (after : NumberedEntry) (before now : List ExitGroup) → AddsFor app pool leaving after IsAny before now →
-    AddsDecided app leaving (plain_entry pool after) (all_exits pool before) (all_exits pool now)
-all_decided app pool leaving after before now h = record { kept = h.kept; each = h.each; whole = λ value d within decides. h.whole value d within decides tt }
 
 module _ (app : App) (entry : PlainEntry) where
   more_effects : (effects : List EffectCase) (effect : EffectCase) (pool mid after : List Values) (a b c : List ExitGroup) → AddsEffects app entry effects pool a mid b → AddsEffects app entry (effect ∷ []) mid b after c →
@@ -73,20 +68,18 @@ module _ (app : App) (entry : PlainEntry) where
     same = exits_same pool after longer before known
 
     -- an effect that takes some values
-    pub effect_added : (left : NumberedEntry) → Applies (effect_rule effect) entry (plain_entry after left) →
-        AddsFor app after effect.leaving left IsAny before now → AddsEffects app entry (effect ∷ []) pool before after now
-    effect_added left applies h =
-        let its : AddsDecided app effect.leaving (plain_entry after left) (all_exits after before) (all_exits after now) = all_decided app after effect.leaving left before now h in
-        record {
-          longer = longer;
-          known = h.known (groups_known pool after longer before known);
-          kept = λ x m. its.kept x (subst (λ (xs : List Exit). Contains xs x) (sym same) m);
-          each = λ x m. elim (its.each x m) [
-            | inl old ↦ inl (subst (λ (xs : List Exit). Contains xs x) same old)
-            | inr decided ↦ inr (decided_comes app (effect ∷ []) effect entry (plain_entry after left) x (among_contained (effect ∷ []) effect (inl refl)) size applies decided)
-          ];
-          some = λ e m. subst (λ (y : EffectCase). HasExitsFor app y entry (all_exits after now)) (sym (alone e m)) (decisions_covered app effect entry (plain_entry after left) (all_exits after before) (all_exits after now) size applies its);
-        }
+    pub effect_added : (left : NumberedEntry) → Applies (effect_rule effect) entry (plain_entry after left) → AreKnownGroups after now →
+        AddsDecided app effect.leaving (plain_entry after left) (all_exits after before) (all_exits after now) → AddsEffects app entry (effect ∷ []) pool before after now
+    effect_added left applies still_known its = record {
+      longer = longer;
+      known = still_known;
+      kept = λ x m. its.kept x (subst (λ (xs : List Exit). Contains xs x) (sym same) m);
+      each = λ x m. elim (its.each x m) [
+        | inl old ↦ inl (subst (λ (xs : List Exit). Contains xs x) same old)
+        | inr decided ↦ inr (decided_comes app (effect ∷ []) effect entry (plain_entry after left) x (among_contained (effect ∷ []) effect (inl refl)) size applies decided)
+      ];
+      some = λ e m. subst (λ (y : EffectCase). HasExitsFor app y entry (all_exits after now)) (sym (alone e m)) (decisions_covered app effect entry (plain_entry after left) (all_exits after before) (all_exits after now) size applies its);
+    }
       where
         alone : (e : EffectCase) → Contains (effect ∷ []) e → e ≡ effect
         alone e m = elim (contained_among (effect ∷ []) e m) [ inl is ↦ is | inr none ↦ absurd none ]

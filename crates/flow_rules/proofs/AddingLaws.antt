@@ -1,65 +1,75 @@
 -- Groups that come to others, one after another.
-use Rattle.std.proofs.Common.{◌≡◌, ◌⊎◌, ℕ, ◌+◌, ◌<◌, ◌≤◌, false, List, length, sym, ap, subst, ◌∙◌, inl, inr, arith, IsTrue, Some}
+use Rattle.std.proofs.Common.{◌≡◌, ◌⊎◌, ℕ, ◌+◌, ◌<◌, ◌≤◌, false, List, [], ◌++◌, length, sym, ap, subst, ◌∙◌, inl, inr, arith, IsTrue, Some, append_assoc}
 use Rattle.std.specs.Prelude.{slice_index_or, Contains}
-use Rattle.std.proofs.lemmas.{Bool.{cases_eq}, List.{get_or_default}}
+use Rattle.std.proofs.lemmas.{Bool.{cases_eq}, List.{append-nil, get_or_default, Elements.{Contains-append_left, Contains-append_right, Contains-append_cases}}, Grind.{flat_map-append}}
 use Rattle.osek_values.specs.declared.numbers.TaskNo.{TaskNo}
 use Rattle.osek_standard.specs.declared.app.App.{App}
+use Rattle.osek_standard.proofs.Members.{contained_among}
 use Rattle.abstract_state.specs.{declared.value.PartValue.{PartValue}, Concrete.{val_of}}
 use Rattle.abstract_state.proofs.ComponentLaws.{task_counted}
 use Rattle.flow_model.specs.declared.case.Decision.{Decision}
 use Rattle.flow_model.specs.declared.case.Decision.TheVariants as decision
 use Rattle.flow_model.specs.{Values.{is_live_value}, Effects.{AreIn}, declared.case.Leaving.{Leaving}}
 use Rattle.numbered_sets.specs.{declared.numbered_entry.NumberedEntry.{NumberedEntry}, Pools.{Values, values_at}, Views.{plain_entry, AreNumbersOf}}
-use Rattle.flow_exits.specs.{declared.exit.Exit.{Exit}, Leaving.{HasDecided}}
+use Rattle.flow_exits.specs.declared.exit.Exit.{Exit}
 use Rattle.flow_rules.specs.{declared.{task_levels.{Level.{Level}, TaskLevels.{TaskLevels}}, levels.Levels.{Levels}}, Levels.{AreTaskLevels, AreAllLevels}}
-use Rattle.flow_rules.specs.{declared.group.ExitGroup.{ExitGroup}, Groups.{all_exits}, Deciding.{DecidesSo, AddsFor, IsIt, IsOfLevel, IsAtLevel, IsAtFirst, IsWinnerBelow}}
+use Rattle.flow_rules.specs.{declared.group.ExitGroup.{ExitGroup}, Groups.{exits_of, all_exits}, Deciding.{DecidesSo, HasUnsettled, AddsFor, IsIt, IsOfLevel, IsAtLevel, IsAtFirst, IsWinnerBelow}}
 use Rattle.flow_rules.proofs.{NumberLaws.{member_number}, OwnLevels.{own_levels, own_judged}}
 
 module _ (app : App) (pool : List Values) (leaving : Leaving) where
-  -- an exit is still there
-  still : (before now : List ExitGroup) (d : Decision) (value : ℕ → PartValue) → ((x : Exit) → Contains (all_exits pool before) x → Contains (all_exits pool now) x)
-      → HasDecided app leaving (all_exits pool before) d value → HasDecided app leaving (all_exits pool now) d value
-  still before now d value kept h = record { exit = h.exit; listed = kept h.exit h.listed; decision = h.decision; status = h.status; within = h.within; target = h.target }
+  -- an exit is among more
+  still : (some more : List Exit) (d : Decision) (value : ℕ → PartValue) → ((x : Exit) → Contains some x → Contains more x) → HasUnsettled app leaving some d value → HasUnsettled app leaving more d value
+  still some more d value onward h = record { exit = h.exit; listed = onward h.exit h.listed; decision = h.decision; status = h.status; within = h.within; target = h.target }
 
   pub nothing_more : (after : NumberedEntry) (P : (ℕ → PartValue) → Decision → Type 0) (gs : List ExitGroup)
       → ((value : ℕ → PartValue) (d : Decision) → AreIn app (plain_entry pool after) value → DecidesSo app leaving value d → P value d → ⊥) → AddsFor app pool leaving after P gs gs
   nothing_more after P gs never = record {
-    known = λ h. h;
-    kept = λ x m. m;
-    each = λ x m. inl m;
+    more = [];
+    added = sym (append-nil gs);
+    known = λ g m. absurd (contained_among [] g m);
+    each = λ x m. absurd (contained_among [] x m);
     whole = λ value d within decides p. absurd (never value d within decides p);
   }
+
+  joined : (some more : List ExitGroup) → all_exits pool (some ++ more) ≡ all_exits pool some ++ all_exits pool more
+  joined some more = flat_map-append (exits_of pool) some more
 
   pub then_more : (after : NumberedEntry) (P Q R : (ℕ → PartValue) → Decision → Type 0)
       → ((value : ℕ → PartValue) (d : Decision) → AreIn app (plain_entry pool after) value → DecidesSo app leaving value d → R value d → P value d ⊎ Q value d)
       → (a b c : List ExitGroup) → AddsFor app pool leaving after P a b → AddsFor app pool leaving after Q b c → AddsFor app pool leaving after R a c
-  then_more after P Q R either a b c x y = record {
-    known = λ h. y.known (x.known h);
-    kept = λ e m. y.kept e (x.kept e m);
-    each = λ e m. elim (y.each e m) [ inl old ↦ x.each e old | inr new ↦ inr new ];
-    whole = λ value d within decides r. elim (either value d within decides r) [
-      | inl p ↦ still b c d value y.kept (x.whole value d within decides p)
-      | inr q ↦ y.whole value d within decides q
-    ];
-  }
+  then_more after P Q R either a b c x y =
+      let first : List Exit = all_exits pool x.more in
+      let second : List Exit = all_exits pool y.more in
+      record {
+        more = x.more ++ y.more;
+        added = y.added ∙ ap (λ (gs : List ExitGroup). gs ++ y.more) x.added ∙ append_assoc a x.more y.more;
+        known = λ g m. elim (Contains-append_cases x.more y.more g m) [ inl here ↦ x.known g here | inr there ↦ y.known g there ];
+        each = λ e m. elim (Contains-append_cases first second e (subst (λ (xs : List Exit). Contains xs e) (joined x.more y.more) m)) [ inl here ↦ x.each e here | inr there ↦ y.each e there ];
+        whole = λ value d within decides r. subst (λ (xs : List Exit). HasUnsettled app leaving xs d value) (sym (joined x.more y.more)) (elim (either value d within decides r) [
+          | inl p ↦ still first (first ++ second) d value (Contains-append_left first second) (x.whole value d within decides p)
+          | inr q ↦ still second (first ++ second) d value (Contains-append_right first second) (y.whole value d within decides q)
+        ]);
+      }
 
   -- of a part of the values, which has all those with another property
   pub of_part : (after part : NumberedEntry) (P Q : (ℕ → PartValue) → Decision → Type 0) → ((value : ℕ → PartValue) → AreIn app (plain_entry pool part) value → AreIn app (plain_entry pool after) value)
       → ((value : ℕ → PartValue) (d : Decision) → AreIn app (plain_entry pool after) value → DecidesSo app leaving value d → Q value d → AreIn app (plain_entry pool part) value × P value d)
       → (a b : List ExitGroup) → AddsFor app pool leaving part P a b → AddsFor app pool leaving after Q a b
   of_part after part P Q within has a b x = record {
+    more = x.more;
+    added = x.added;
     known = x.known;
-    kept = x.kept;
-    each = λ e m. elim (x.each e m) [
-      | inl old ↦ inl old
-      | inr new ↦ inr (record {
-        decision = new.decision;
-        decides = new.decides;
-        status = new.status;
-        filled = new.filled;
-        each = λ value h. (let k = new.each value h in record { before = k.before; within = within k.before k.within; decides = k.decides; target = k.target; settles = k.settles });
-      })
-    ];
+    each = λ e m.
+        (let k = x.each e m in
+        record {
+          decision = k.decision;
+          decides = k.decides;
+          status = k.status;
+          filled = k.filled;
+          within = λ value h. within value (k.within value h);
+          each = k.each;
+          target = k.target;
+        });
     whole = λ value d h decides q. (let found = has value d h decides q in x.whole value d found.0 decides found.1);
   }
 

@@ -10,9 +10,9 @@ use Rattle.abstract_state.specs.{declared.{value.PartValue.{PartValue}, table.Pl
 use Rattle.abstract_state.specs.{Concrete.{AreAllowed}, Choices.{IsFirstIfThere}, Regular.{IsRegular}, Tables.{set_at, is_member}}
 use Rattle.abstract_state.proofs.AllowedLaws.{well_part}
 use Rattle.flow_model.specs.declared.{test.Condition.{Condition}, case.{EffectCase.{EffectCase}, OutcomeCase.{OutcomeCase}}, rule.Rule.{Rule}}
-use Rattle.flow_model.specs.{Tests.{PassesAt, PassesAll, values_after}, Effects.{AreIn, AreAllAllowed, IsAt, IsKnownStay, HaveKnownStays, HasEffect, CoverEffects, AreExactEffects}}
-use Rattle.flow_model.specs.{Scheduling.{AreValuesOf, HasOutcome}, Rules.{Matches, IsMatched, IsForeseen, Shown}}
-use Rattle.flow_model.proofs.Instructions.{instruction_by, shown_so}
+use Rattle.flow_model.specs.{Tests.{PassesAt, PassesAll, value_after, values_after}, Effects.{AreIn, AreAllAllowed, IsAt, IsKnownStay, HaveKnownStays, HasEffect, CoverEffects, AreExactEffects}}
+use Rattle.flow_model.specs.{Scheduling.{AreValuesOf, HasOutcome, settling}, Rules.{Matches, IsMatched, IsForeseen, Shown}}
+use Rattle.flow_model.proofs.{ChangeLaws.{after_both}, Instructions.{instruction_by, shown_so}, SettledValues.{settles}}
 use Rattle.flow_exits.specs.Deciding.{IsKernelDecision}
 use Rattle.flow_exits.proofs.Steps.{changed, some_decision, kernel_decision, instruction_ends, winner}
 use Rattle.flow_rules.specs.Assembly.{rule_of, IsRuleOfSome, AreAllAdded}
@@ -36,14 +36,16 @@ module _ (app : App) (entry : PlainEntry) (effect_case : EffectCase) (x : Outcom
   -- the step is the instruction, with its effect and its outcome
   pub steps_as_rule : IsKnownStay app effect_case.leaving.stay → (w : Well app s) → IsRegular app s → (h : HasEffect app effect_case s choice) → HasOutcome app effect_case x (abstract_of app s) →
       IsKernelDecision app effect_case.leaving (effect app s choice) (values_after effect_case.changes (abstract_of app s)) x.decision →
-      step app s e ≡ instruction app s choice → shows app s e ≡ Did (outcome app s choice) (effect app s choice).notes.status → Matches app (rule_of effect_case x) s e
+      step app s e ≡ instruction app s choice → shows app s e ≡ Did (outcome app s choice) (effect app s choice).notes.status → Matches app (rule_of app effect_case x) s e
   steps_as_rule known w regular h o does steps shown =
       let value : ℕ → PartValue = values_after effect_case.changes (abstract_of app s) in
       let r = instruction_ends app s choice w effect_case h value (changed app s choice w effect_case h) x.decision does known e steps regular shown in
       record {
         passes = passes_both app effect_case.conditions x.conditions (abstract_of app s) h.passes o.passes;
         target = r.target ∙ sym o.target;
-        parts = r.parts;
+        parts = λ c lt. r.parts c lt
+            ∙ sym (after_both effect_case.changes (settling app effect_case.leaving.stay x.decision) c (abstract_of app s c)
+            ∙ settles app effect_case.leaving.stay x.decision c (value_after effect_case.changes c (abstract_of app s c)));
         shows = r.shows;
         status = r.status;
       }
@@ -65,7 +67,7 @@ module _ (app : App) (p : Point) (entry : PlainEntry) (effects : List EffectCase
       let r = added.some h.case h.listed (abstract_of app s) decided.0 values h.effect.passes decided.1.decides in
       let does = subst (IsKernelDecision app h.case.leaving (effect app s i.choice) value) (sym r.decision) decided.1 in
       record {
-        rule = rule_of h.case r.outcome;
+        rule = rule_of app h.case r.outcome;
         listed = r.listed;
         matches = steps_as_rule app entry h.case r.outcome s e i.choice (stays h.case h.listed) at.well at.regular h.effect r.is does i.steps
             (shown ∙ ap (λ (d : Outcome). Did d x) (sym i.does) ∙ ap (Did (outcome app s i.choice)) (sym i.status));
@@ -81,7 +83,7 @@ module _ (app : App) (p : Point) (entry : PlainEntry) (effects : List EffectCase
       let r = added.some h.case h.listed (abstract_of app s) decided.0 values h.effect.passes decided.1.decides in
       let does = subst (IsKernelDecision app h.case.leaving (effect app s choice) value) (sym r.decision) decided.1 in
       record {
-        rule = rule_of h.case r.outcome;
+        rule = rule_of app h.case r.outcome;
         listed = r.listed;
         foreseen = record {
           decision = r.outcome.decision;
@@ -97,7 +99,7 @@ module _ (app : App) (p : Point) (entry : PlainEntry) (effects : List EffectCase
       IsRuleOfSome app p entry effects rule → AreIn app entry value → PassesAll app rule.conditions value → Shown app p rule value
   instruction_shown stays allowed active exact rule value r within passes =
       let outcome_of_rule = r.is.outcome in
-      let whole : PassesAll app (rule_of r.effect outcome_of_rule).conditions value = subst (λ (y : Rule). PassesAll app y.conditions value) r.is.is passes in
+      let whole : PassesAll app (rule_of app r.effect outcome_of_rule).conditions value = subst (λ (y : Rule). PassesAll app y.conditions value) r.is.is passes in
       let first = passes_left app r.effect.conditions outcome_of_rule.conditions value whole in
       let second = passes_right app r.effect.conditions outcome_of_rule.conditions value whole in
       let shown = exact r.effect value (winner outcome_of_rule.decision) r.listed within first in
@@ -110,7 +112,7 @@ module _ (app : App) (p : Point) (entry : PlainEntry) (effects : List EffectCase
       let act : IsActive s.processor = active s shown.has.well shown.has.point in
       let does = kernel_decision app s shown.choice shown.has.well r.effect shown.effect (values_after r.effect.changes (abstract_of app s))
       (changed app s shown.choice shown.has.well r.effect shown.effect) outcome_of_rule.decision has.decides (λ w e. subst (λ (t : ℕ). IsFirstIfThere t s) (ap winner e) shown.first) in
-      let matches : Matches app (rule_of r.effect outcome_of_rule) s (Run shown.choice) =
+      let matches : Matches app (rule_of app r.effect outcome_of_rule) s (Run shown.choice) =
       steps_as_rule app entry r.effect outcome_of_rule s (Run shown.choice) shown.choice (stays r.effect r.listed) shown.has.well shown.has.regular shown.effect has does
       (instruction_by app s shown.choice act shown.alone) (shown_so app s shown.choice act shown.alone) in
       record { from = s; event = Run shown.choice; has = shown.has; matches = subst (λ (y : Rule). Matches app y s (Run shown.choice)) (sym r.is.is) matches }

@@ -1,6 +1,7 @@
 -- The exits of one group: each choice of its values has one, and stands where that ends.
 use Rattle.std.proofs.Common.{◌≡◌, ℕ, ◌<◌, false, List, [], ◌∷◌, ◌++◌, length, map, refl, sym, ap, subst, ◌∙◌, inl, inr, arith, Some, None, IsTrue}
 use Rattle.std.specs.Prelude.{Contains}
+use Rattle.std.proofs.lemmas.List.{append-nil}
 use Rattle.osek_standard.specs.declared.{app.App.{App}, point.Point.{Point}}
 use Rattle.osek_standard.specs.declared.point.Point.TheVariants as point
 use Rattle.osek_standard.proofs.Members.{among_map, map_among, among_contained, contained_among}
@@ -13,11 +14,12 @@ use Rattle.flow_model.specs.declared.case.Stay.TheVariants as stay
 use Rattle.flow_model.specs.declared.case.Leaving.{Leaving}
 use Rattle.numbered_sets.specs.{declared.numbered_entry.NumberedEntry.{NumberedEntry}, Numbers.{has_number}, NumberedEntries.{numbers_at}, Pools.{Values}}
 use Rattle.numbered_sets.specs.Views.{plain_entry}
-use Rattle.flow_exits.specs.{declared.exit.Exit.{Exit}, Exits.{IsFilled}, Leaving.{HasDecided}}
+use Rattle.flow_exits.specs.{declared.exit.Exit.{Exit}, Exits.{IsFilled}}
 use Rattle.flow_rules.specs.declared.group.{NumberEnd.{NumberEnd}, Ends.{Ends}, ExitGroup.{ExitGroup}}
 use Rattle.flow_rules.specs.declared.group.Ends.TheVariants as ends
-use Rattle.flow_rules.specs.{Groups.{holding, exit_at, exits_by, all_exits, AreNumbersThere, AreKnownEnds}, Deciding.{block_with, AreBlockEnds, AreBlocks, AreEndsBy, AddsOne, AddsFor, IsGroupFor, IsKnownDecision, IsWhole}}
-use Rattle.flow_rules.proofs.{GroupLaws.{old_exit, new_exit, exit_cases, known_with}, NumberLaws.{member_number, filled_plain}}
+use Rattle.flow_rules.specs.{Groups.{holding, exit_at, exits_by, exits_of, all_exits, AreNumbersThere, AreKnownEnds, IsKnownGroup}}
+use Rattle.flow_rules.specs.Deciding.{block_with, AreBlockEnds, AreBlocks, AreEndsBy, AddsOne, HasUnsettled, AddsFor, IsGroupFor, IsKnownDecision, IsWhole}
+use Rattle.flow_rules.proofs.NumberLaws.{member_number, filled_plain}
 use Rattle.flow_rules.proofs.HeldLaws.{held_number, held_within, held_in, held_filled}
 
 -- where a task's value stands
@@ -126,34 +128,32 @@ module _ (app : App) (pool : List Values) (leaving : Leaving) (after : NumberedE
   added : (g : ExitGroup) → g.decision ≡ Some d → g.status ≡ leaving.status → AreEndsBy pool g.entry leaving.stay d g.ends → IsWhole app pool g.entry → IsGroupFor app pool leaving after P d g.entry → AddsFor app pool leaving after P before (before ++ g ∷ [])
   added g decision status by sound group =
       let all = ends_by app pool g sound leaving.stay d g.ends stays goes by in
+      let its : all_exits pool (g ∷ []) ≡ exits_of pool g = append-nil (exits_of pool g) in
       record {
-        known = λ old. known_with pool before g old (record { numbers = sound.numbers; ends = all.known });
-        kept = old_exit pool before g;
-        each = λ x m. elim (exit_cases pool before g x m) [
-          | inl old ↦ inl old
-          | inr new ↦
-              (let e = all.each x new in
-              inr (record {
-                decision = d;
-                decides = e.decision ∙ decision;
-                status = e.status ∙ status;
-                filled = e.filled;
-                each = λ value h. record {
-                  before = value;
-                  within = group.within value (e.within value h);
-                  decides = group.each value (e.within value h);
-                  target = e.target value h;
-                  settles = λ c. refl;
-                };
-              }))
+        more = g ∷ [];
+        added = refl;
+        known = λ k m. elim (contained_among (g ∷ []) k m) [
+          | inl is ↦ subst (IsKnownGroup pool) (sym is) (record { numbers = sound.numbers; ends = all.known })
+          | inr none ↦ absurd none
         ];
+        each = λ x m.
+            (let e = all.each x (subst (λ (xs : List Exit). Contains xs x) its m) in
+            record {
+              decision = d;
+              decides = e.decision ∙ decision;
+              status = e.status ∙ status;
+              filled = e.filled;
+              within = λ value h. group.within value (e.within value h);
+              each = λ value h. group.each value (e.within value h);
+              target = e.target;
+            });
         whole = λ value e within decides p.
-            (let its = group.whole value e within decides p in
-            let x = all.whole value its.1 in
-            subst (λ (f : Decision). HasDecided app leaving (all_exits pool (before ++ g ∷ [])) f value) (sym its.0)
+            (let k = group.whole value e within decides p in
+            let x = all.whole value k.1 in
+            subst (λ (f : Decision). HasUnsettled app leaving (all_exits pool (g ∷ [])) f value) (sym k.0)
             (record {
               exit = x.exit;
-              listed = new_exit pool before g x.exit x.listed;
+              listed = subst (λ (xs : List Exit). Contains xs x.exit) (sym its) x.listed;
               decision = x.decision ∙ decision;
               status = x.status ∙ status;
               within = x.within;

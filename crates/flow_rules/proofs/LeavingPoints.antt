@@ -1,16 +1,20 @@
 -- All exits of a point: those of arrivals, and then those of the instructions.
-use Rattle.std.proofs.{Common.{◌≡◌, ◌<◌, ◌≤◌, List, [], length, sym, ap, ◌∙◌, inl, inr, arith}, lemmas.List.{length-map}}
+use Rattle.std.proofs.{Common.{◌≡◌, ◌<◌, ◌≤◌, List, [], length, get_or, sym, ap, ◌∙◌, inl, inr, arith}, Math.ListN.{get_or-map}, lemmas.List.{length-map}}
+use Rattle.osek_values.specs.Numbers.{alarm_no}
 use Rattle.osek_standard.specs.declared.{app.App.{App}, point.Point.{Point}}
 use Rattle.osek_standard.specs.declared.point.Point.TheVariants as point
 use Rattle.osek_standard.proofs.Members.{contained_among}
 use Rattle.abstract_state.specs.{declared.{value.Domain.{Domain}, table.{ValueSet.{ValueSet}, PlainEntry.{PlainEntry}}}, Components.{components, component_count}}
+use Rattle.abstract_state.specs.declared.value.Component.TheVariants as component
+use Rattle.abstract_state.specs.declared.value.Domain.TheVariants as domain
 use Rattle.abstract_state.specs.Domains.{domain_of, domains_of}
+use Rattle.abstract_state.proofs.ComponentLaws.{task_at_its_number}
 use Rattle.flow_model.specs.{declared.{runner.Runner.{Runner}, rule.Rule.{Rule}}, Runners.{Executes, IsNobodys}, Tests.{value_after}, Rules.{Applies}}
 use Rattle.numbered_sets.specs.{declared.numbered_entry.NumberedEntry.{NumberedEntry}, Numbers.{Numbers}, NumberedEntries.{numbers_at, number_domains, AreFilled}}
-use Rattle.numbered_sets.specs.{Pools.{Values, pool_domains}, Views.{plain_entry}}
+use Rattle.numbered_sets.specs.{Pools.{Values, no_values, pool_domains}, Views.{plain_entry}}
 use Rattle.numbered_sets.proofs.ViewLaws.{same_domains}
 use Rattle.flow_exits.specs.{Exits.{IsFilled}, Leaving.{AreExits}}
-use Rattle.flow_rules.specs.{declared.group.ExitGroup.{ExitGroup}, Groups.{all_exits}, Leaving.{AddsArrivals, AddsInstructions}}
+use Rattle.flow_rules.specs.{declared.group.ExitGroup.{ExitGroup}, Groups.{all_exits}, Levels.{HaveTaskDomains}, Leaving.{AddsArrivals, AddsInstructions}}
 use Rattle.flow_rules.proofs.{LeftLaws.{tasks_counted}, NumberLaws.{member_number, number_fills}, PointRules.{passive_by}, ArrivingGroups.{arrival_listed, still_arrives}}
 
 -- an entry with the components' domains has a set for each
@@ -67,6 +71,13 @@ pool_counted app pool entry alike numbers = sym (length-map pool (λ (x : Values
 
 pub pool_has_tasks : (app : App) (pool : List Values) (entry : NumberedEntry) → number_domains entry ≡ domains_of app → number_domains entry ≡ pool_domains pool → length app.tasks ≤ length pool
 pool_has_tasks app pool entry alike numbers = omega (arith, pool_counted app pool entry alike numbers, tasks_counted app)
+
+pub task_domains : (app : App) (pool : List Values) (entry : NumberedEntry) → number_domains entry ≡ domains_of app → number_domains entry ≡ pool_domains pool → HaveTaskDomains app pool
+task_domains app pool entry alike numbers t known =
+    sym (get_or-map (λ (x : Values). x.domain) pool t (no_values domain.Alarm))
+    ∙ ap (λ (ds : List Domain). get_or ds t domain.Alarm) (sym numbers ∙ alike)
+    ∙ get_or-map (domain_of app) (components app) t (component.Alarm (alarm_no 0))
+    ∙ ap (domain_of app) (task_at_its_number app t known)
 
 -- an entry with the components' domains has a set of numbers for each
 pub numbers_counted : (app : App) (entry : NumberedEntry) → number_domains entry ≡ domains_of app → length entry.sets ≡ component_count app

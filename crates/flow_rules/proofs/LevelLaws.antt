@@ -7,7 +7,8 @@ use Rattle.abstract_state.specs.{declared.{value.PartValue.{PartValue, TheVarian
 use Rattle.numbered_sets.specs.{declared.numbered_entry.NumberedEntry.{NumberedEntry}, Numbers.{Numbers, has_number}, NumberedEntries.{no_set, numbers_at, number_domains}}
 use Rattle.numbered_sets.specs.{Pools.{Values, values_at, IsExtended, IsLonger}, Views.{plain_set, plain_entry, AreNumbersOf}}
 use Rattle.numbered_sets.proofs.{PlainLaws.{member_of_plain, plain_set_at}, SiftLaws.{value_sifted}}
-use Rattle.flow_rules.specs.{declared.{task_levels.TaskLevels.{TaskLevels}, levels.Levels.{Levels}}, Levels.{IsLiveAt, AreOf, IsDead, AreTaskLevels, AreLevels, IsNarrowed}}
+use Rattle.flow_rules.specs.{declared.{task_levels.TaskLevels.{TaskLevels}, levels.Levels.{Levels}}, Levels.{IsLiveAt, AreOf, IsDead, AreTaskLevels, AreInsides, AreLevels, IsNarrowed}}
+use Rattle.flow_rules.proofs.InsideLevels.{insides_longer}
 
 -- ---- a pool that grew
 
@@ -30,6 +31,7 @@ pub levels_longer : (app : App) (pool after : List Values) (levels : Levels) →
 levels_longer app pool after levels longer h = record {
   size = h.size;
   each = λ u d lt. task_levels_longer (values_at pool u) (values_at after u) (longer.values u) app u (get_or levels.tasks u d) (h.each u d lt);
+  insides = insides_longer app pool after levels.insides longer h.insides;
 }
 
 -- ---- the levels of the first tasks
@@ -49,10 +51,10 @@ levels_next app pool k tasks x h each = record {
   ];
 }
 
-pub all_levels : (app : App) (pool : List Values) (levels : Levels) (k : ℕ) → AreLevelsUpTo app pool k levels.tasks → k ≡ length app.tasks → AreLevels app pool levels
-all_levels app pool levels k h whole = record { size = h.size ∙ whole; each = λ u d lt. h.each u d (omega (arith, lt, whole)) }
+pub all_levels : (app : App) (pool : List Values) (levels : Levels) (k : ℕ) → AreLevelsUpTo app pool k levels.tasks → k ≡ length app.tasks → AreInsides app pool levels.insides → AreLevels app pool levels
+all_levels app pool levels k h whole insides = record { size = h.size ∙ whole; each = λ u d lt. h.each u d (omega (arith, lt, whole)); insides = insides }
 
-module _ (app : App) (pool : List Values) (levels after : Levels) (k : ℕ) (x : TaskLevels) (h : AreLevels app pool levels) (known : k < length app.tasks) (write : after.tasks ≡ set levels.tasks k x) (its : AreTaskLevels app k (values_at pool k) x) where
+module _ (app : App) (pool : List Values) (levels after : Levels) (k : ℕ) (x : TaskLevels) (h : AreLevels app pool levels) (known : k < length app.tasks) (write : after.tasks ≡ set levels.tasks k x) (same : after.insides ≡ levels.insides) (its : AreTaskLevels app k (values_at pool k) x) where
   here : (u : ℕ) (d : TaskLevels) → u ≡ k → get_or after.tasks u d ≡ x
   here u d same = ap₂ (λ (xs : List TaskLevels) (j : ℕ). get_or xs j d) write same ∙ get_or-set_same levels.tasks k x d (omega (arith, known, h.size))
 
@@ -63,9 +65,10 @@ module _ (app : App) (pool : List Values) (levels after : Levels) (k : ℕ) (x :
   levels_with = record {
     size = ap length write ∙ length-set levels.tasks k x ∙ h.size;
     each = λ u d lt. elim (cases_eq u k) [
-      | inl same ↦ subst (λ (j : ℕ). AreTaskLevels app j (values_at pool j) (get_or after.tasks u d)) (sym same) (subst (AreTaskLevels app k (values_at pool k)) (sym (here u d same)) its)
+      | inl at ↦ subst (λ (j : ℕ). AreTaskLevels app j (values_at pool j) (get_or after.tasks u d)) (sym at) (subst (AreTaskLevels app k (values_at pool k)) (sym (here u d at)) its)
       | inr differ ↦ subst (AreTaskLevels app u (values_at pool u)) (sym (there u d differ)) (h.each u d lt)
     ];
+    insides = subst (AreInsides app pool) (sym same) h.insides;
   }
 
   pub judged_with : x.judged ≡ length (values_at pool k) → ((u : ℕ) (d : TaskLevels) → u < k → (get_or levels.tasks u d).judged ≡ length (values_at pool u)) → (u : ℕ) (d : TaskLevels) → u < k + 1 → (get_or after.tasks u d).judged ≡ length (values_at pool u)
@@ -73,6 +76,14 @@ module _ (app : App) (pool : List Values) (levels after : Levels) (k : ℕ) (x :
     | inl same ↦ ap (λ (y : TaskLevels). y.judged) (here u d same) ∙ all ∙ ap (λ (j : ℕ). length (values_at pool j)) (sym same)
     | inr differ ↦ ap (λ (y : TaskLevels). y.judged) (there u d differ) ∙ so_far u d (omega (arith, lt, differ))
   ]
+
+-- other values inside
+pub levels_beside : (app : App) (pool : List Values) (levels after : Levels) → after.tasks ≡ levels.tasks → AreInsides app pool after.insides → AreLevels app pool levels → AreLevels app pool after
+levels_beside app pool levels after same insides h = record {
+  size = ap length same ∙ h.size;
+  each = λ u d lt. subst (AreTaskLevels app u (values_at pool u)) (ap (λ (xs : List TaskLevels). get_or xs u d) (sym same)) (h.each u d lt);
+  insides = insides;
+}
 
 -- ---- what a narrowed entry means
 

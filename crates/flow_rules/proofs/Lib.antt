@@ -1,5 +1,6 @@
 pub mod JudgedValues
 pub mod NarrowingLaws
+pub mod InsideLevels
 pub mod LevelLaws
 pub mod Passing
 pub mod Assembling
@@ -23,6 +24,9 @@ pub mod AddingLaws
 pub mod ClaimedGroups
 pub mod WholeLaws
 pub mod GrowingPools
+pub mod SettledEntries
+pub mod SettledGroups
+pub mod SettlingSteps
 pub mod AddingEffects
 pub mod ArrivingGroups
 pub mod LeavingPoints

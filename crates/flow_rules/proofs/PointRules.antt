@@ -19,26 +19,26 @@ use Rattle.flow_rules.specs.{Assembly.{rule_of, HasRulesFor, AreAdded, AreAllAdd
 use Rattle.flow_rules.proofs.Assembling.{instruction_covered, instruction_foreseen, instruction_shown}
 
 -- the rules of one effect, one for each outcome, at the end of others
-pub outcomes_added : (app : App) (p : Point) (entry : PlainEntry) (effect : EffectCase) (outcomes : List OutcomeCase) (before after : List Rule) → after ≡ before ++ map (rule_of effect) outcomes →
+pub outcomes_added : (app : App) (p : Point) (entry : PlainEntry) (effect : EffectCase) (outcomes : List OutcomeCase) (before after : List Rule) → after ≡ before ++ map (rule_of app effect) outcomes →
     CoverOutcomes app p entry effect outcomes → AreExactOutcomes app p entry effect outcomes → AreAdded app p entry effect before after
 outcomes_added app p entry effect outcomes before after is covering exact = record {
-  kept = λ r m. subst (λ (xs : List Rule). Contains xs r) (sym is) (among_contained whole r (among_left r before (map (rule_of effect) outcomes) (contained_among before r m)));
-  each = λ r m. elim (among_cases r before (map (rule_of effect) outcomes) (contained_among whole r (subst (λ (xs : List Rule). Contains xs r) is m))) [
+  kept = λ r m. subst (λ (xs : List Rule). Contains xs r) (sym is) (among_contained whole r (among_left r before (map (rule_of app effect) outcomes) (contained_among before r m)));
+  each = λ r m. elim (among_cases r before (map (rule_of app effect) outcomes) (contained_among whole r (subst (λ (xs : List Rule). Contains xs r) is m))) [
     | inl old ↦ inl (among_contained before r old)
     | inr new ↦
-        (let x = map_among (rule_of effect) r outcomes new in
+        (let x = map_among (rule_of app effect) r outcomes new in
         inr (record { outcome = x.0; is = x.2; exact = λ value values first second. exact x.0 value (among_contained outcomes x.0 x.1) values first second }))
   ];
   some = λ value d values passes decides. (let x = covering value d values passes decides in record {
     outcome = x.case;
-    listed = subst (λ (xs : List Rule). Contains xs (rule_of effect x.case)) (sym is) (among_contained whole (rule_of effect x.case) (among_right (rule_of effect x.case) before (map (rule_of effect) outcomes) (among_map (rule_of effect) x.case outcomes (contained_among outcomes x.case x.listed))));
+    listed = subst (λ (xs : List Rule). Contains xs (rule_of app effect x.case)) (sym is) (among_contained whole (rule_of app effect x.case) (among_right (rule_of app effect x.case) before (map (rule_of app effect) outcomes) (among_map (rule_of app effect) x.case outcomes (contained_among outcomes x.case x.listed))));
     decision = x.decision;
     is = x.outcome;
   });
 }
   where
     whole : List Rule
-    whole = before ++ map (rule_of effect) outcomes
+    whole = before ++ map (rule_of app effect) outcomes
 
 pub none_added : (app : App) (p : Point) (entry : PlainEntry) (rules : List Rule) → AreAllAdded app p entry [] rules rules
 none_added app p entry rules = record { kept = λ r m. m; each = λ r m. inl m; some = λ effect m. absurd (omega (arith, m.1)) }
@@ -66,7 +66,7 @@ more_added app p entry effects effect before mid after h more = record {
     still : (x : EffectCase) → HasRulesFor app p entry x mid → HasRulesFor app p entry x after
     still x has value d values passes decides =
         let r = has value d values passes decides in
-        record { outcome = r.outcome; listed = more.kept (rule_of x r.outcome) r.listed; decision = r.decision; is = r.is }
+        record { outcome = r.outcome; listed = more.kept (rule_of app x r.outcome) r.listed; decision = r.decision; is = r.is }
 
 pub added_on : (app : App) (p : Point) (entry : PlainEntry) (effects : List EffectCase) (i : ℕ) (effect : EffectCase) (before mid after : List Rule) → i < length effects → get_or effects i effect ≡ effect →
     AreAllAdded app p entry (take i effects) before mid → AreAdded app p entry effect mid after → AreAllAdded app p entry (take (i + 1) effects) before after

@@ -1,16 +1,18 @@
 -- Rules out of the exits of effects: they cover what the scheduler decides, and each is exact.
-use Rattle.std.proofs.Common.{◌≡◌, ℕ, List, [], ◌∷◌, ◌++◌, map, flat_map, refl, sym, ap, subst, ◌∙◌, inl, inr, Some, None}
+use Rattle.std.proofs.Common.{◌≡◌, ℕ, List, [], ◌++◌, length, map, flat_map, refl, sym, ap, subst, ◌∙◌, inl, inr, Some, None}
 use Rattle.std.specs.{Prelude.{Contains}, declared.option.Option.{Option}}
+use Rattle.std.proofs.lemmas.List.{append-nil}
 use Rattle.osek_standard.specs.declared.{app.App.{App}, point.Point.{Point}}
 use Rattle.osek_standard.proofs.Members.{Among, among_flat_map, flat_map_among, contained_among, among_contained}
-use Rattle.abstract_state.specs.{declared.{value.PartValue.{PartValue}, table.PlainEntry.{PlainEntry}}, Concrete.{AreAllowed}}
+use Rattle.abstract_state.specs.{declared.{value.PartValue.{PartValue}, table.PlainEntry.{PlainEntry}}, Components.{component_count}, Concrete.{AreAllowed}}
 use Rattle.flow_model.specs.{declared.{case.{Decision.{Decision}, EffectCase.{EffectCase}, OutcomeCase.{OutcomeCase}}, rule.Rule.{Rule}}, Effects.{AreIn, stay_point}}
-use Rattle.flow_model.specs.{Scheduling.{Decides, end_point, HasOutcome, CoverOutcomes, AreExactOutcomes}, Tests.{PassesAll, values_after}}
-use Rattle.numbered_sets.specs.Pools.{Values}
-use Rattle.flow_exits.specs.declared.exit.Exit.{Exit}
+use Rattle.flow_model.specs.{Scheduling.{Decides, end_point, HasOutcome, CoverOutcomes, AreExactOutcomes}, Tests.{PassesAll, values_after}, Rules.{Applies, HasNone}}
+use Rattle.numbered_sets.specs.{declared.numbered_entry.NumberedEntry.{NumberedEntry}, Pools.{Values}, Views.{plain_entry}}
+use Rattle.flow_exits.specs.{declared.exit.Exit.{Exit}, Leaving.{effect_rule}}
+use Rattle.flow_exits.proofs.AfterEffect.{all_after, nothing_taken}
 use Rattle.flow_rules.specs.Assembly.{rule_of, AreAdded}
 use Rattle.flow_rules.proofs.PointRules.{outcomes_added}
-use Rattle.flow_rules.specs.{declared.group.ExitGroup.{ExitGroup}, Groups.{all_exits}, Leaving.{AddsEffects}, Ruling.{outcome_by, outcome_if, outcomes_by, AddsRulesOf}}
+use Rattle.flow_rules.specs.{declared.group.ExitGroup.{ExitGroup}, Groups.{all_exits}, Deciding.{AddsFor, HasUnsettled, IsAny}, Ruling.{outcome_by, outcome_if, outcomes_by, AddsRulesOf}}
 use Rattle.flow_rules.proofs.BarredValues.{kept_pass, passing_kept}
 
 -- the second entry has the values of the first that states have at the point
@@ -45,22 +47,13 @@ module _ (app : App) (p : Point) (entry from : PlainEntry) (there : (value : ℕ
         let after_it : ℕ → PartValue = values_after effect.changes value in
         let passing : PassesAll app (case x d).conditions value = subst (λ (z : OutcomeCase). PassesAll app z.conditions value) is passes in
         let o = h.each x listed in
-        let k = o.comes after_it (passing_kept app effect.changes from x.entry value within passing) in
-        let same : k.effect ≡ effect = elim (contained_among (effect ∷ []) k.effect k.listed) [
-          | inl it ↦ it
-          | inr none ↦ absurd none
-        ] in
+        let kept = passing_kept app effect.changes from x.entry value within passing in
         let found : Some o.decision ≡ Some d = sym o.decides ∙ e in
         let decided : o.decision ≡ d = cc in
-        let here : k.after ≡ after_it = λ i c. k.settles c i in
         let its : HasOutcome app effect (case x d) value = record {
           passes = passing;
-          decides = subst (λ (v : ℕ → PartValue). Decides app v effect.leaving d) here
-              (subst (λ (z : EffectCase). Decides app k.after z.leaving d) same (subst (Decides app k.after k.effect.leaving) decided k.decides));
-          target = k.target
-              ∙ ap (λ (v : ℕ → PartValue). end_point app v (stay_point k.effect.leaving.stay v) o.decision) here
-              ∙ ap (λ (z : EffectCase). end_point app after_it (stay_point z.leaving.stay after_it) o.decision) same
-              ∙ ap (end_point app after_it (stay_point effect.leaving.stay after_it)) decided;
+          decides = subst (Decides app after_it effect.leaving) decided (o.each after_it kept);
+          target = o.target after_it kept ∙ ap (end_point app after_it (stay_point effect.leaving.stay after_it)) decided;
         } in
         subst (λ (z : OutcomeCase). HasOutcome app effect z value) (sym is) its
 
@@ -72,15 +65,27 @@ module _ (app : App) (p : Point) (entry from : PlainEntry) (there : (value : ℕ
     pub rules_added : AreAdded app p entry effect before after
     rules_added = outcomes_added app p entry effect cases before after h.added cover exact
 
--- the exits of the groups of an effect
-pub exits_ruled : (app : App) (from : PlainEntry) (effect : EffectCase) (pool after : List Values) (groups : List ExitGroup) (exits : List Exit) (before rules : List Rule) → AddsEffects app from (effect ∷ []) pool [] after groups → exits ≡ all_exits after groups →
-    rules ≡ before ++ map (rule_of effect) (flat_map (outcomes_by app effect.changes from) exits) → AddsRulesOf app from effect before rules
-exits_ruled app from effect pool after groups exits before rules h is added = record {
-  exits = all_exits after groups;
-  each = λ x m. elim (h.each x m) [
-    | inl none ↦ absurd (contained_among [] x none)
-    | inr of_it ↦ of_it
-  ];
-  whole = h.some effect (among_contained (effect ∷ []) effect (inl refl));
-  added = added ∙ ap (λ (xs : List Exit). before ++ map (rule_of effect) (flat_map (outcomes_by app effect.changes from) xs)) is;
+-- the exits of the groups of an effect, before they are settled
+pub exits_ruled : (app : App) (from : PlainEntry) (effect : EffectCase) (pool : List Values) (left : NumberedEntry) (groups : List ExitGroup) (exits : List Exit) (before rules : List Rule) → length from.sets ≡ component_count app →
+    Applies (effect_rule effect) from (plain_entry pool left) → AddsFor app pool effect.leaving left IsAny [] groups → exits ≡ all_exits pool groups →
+    rules ≡ before ++ map (rule_of app effect) (flat_map (outcomes_by app effect.changes from) exits) → AddsRulesOf app from effect before rules
+exits_ruled app from effect pool left groups exits before rules size applies h is added =
+    let same : exits ≡ all_exits pool h.more = is ∙ ap (all_exits pool) h.added in
+    record {
+      made = plain_entry pool left;
+      exits = exits;
+      each = λ x m. h.each x (subst (λ (xs : List Exit). Contains xs x) same m);
+      whole = λ value d within passes decides. subst (λ (xs : List Exit). HasUnsettled app effect.leaving xs d (values_after effect.changes value)) (sym same)
+          (h.whole (values_after effect.changes value) d (all_after app (effect_rule effect) from (plain_entry pool left) size applies value within passes) decides tt);
+      added = added;
+    }
+
+-- an effect that takes no values has none
+pub none_ruled : (app : App) (from : PlainEntry) (effect : EffectCase) (rules : List Rule) → length from.sets ≡ component_count app → HasNone (effect_rule effect) from → AddsRulesOf app from effect rules rules
+none_ruled app from effect rules size none = record {
+  made = from;
+  exits = [];
+  each = λ x m. absurd (contained_among [] x m);
+  whole = λ value d within passes decides. (let k = nothing_taken app effect from [] none size value d within passes decides in absurd (contained_among [] k.exit k.listed));
+  added = sym (append-nil rules);
 }

@@ -2,27 +2,29 @@
 use Rattle.std.specs.Prelude.{◌≡◌, ◌⊎◌, ℕ, List, ◌++◌, Some, Contains}
 use Rattle.osek_standard.specs.declared.{app.App.{App}, point.Point.{Point}}
 use Rattle.abstract_state.specs.declared.{value.PartValue.{PartValue}, table.PlainEntry.{PlainEntry}}
-use Rattle.flow_model.specs.declared.{case.{Decision.{Decision}, EffectCase.{EffectCase}, OutcomeCase.{OutcomeCase}}, rule.Rule.{Rule}, test.Condition.{Condition}}
-use Rattle.flow_model.specs.{Tests.{PassesAll, values_after}, Scheduling.{AreValuesOf, Decides, HasOutcome}}
+use Rattle.flow_model.specs.declared.{case.{Decision.{Decision}, EffectCase.{EffectCase}, OutcomeCase.{OutcomeCase}}, rule.Rule.{Rule}}
+use Rattle.flow_model.specs.{Tests.{PassesAll, values_after}, Scheduling.{AreValuesOf, Decides, HasOutcome, settling}}
 
--- the effect, more conditions, and what the scheduler does under them
-abbrev pub rule_by : EffectCase → List Condition → Decision → Point → Rule
-rule_by effect more decision target = record { conditions = effect.conditions ++ more; changes = effect.changes; target = target; decision = Some decision; status = effect.leaving.status }
-
--- the effect and then this outcome
-abbrev pub rule_of : EffectCase → OutcomeCase → Rule
-rule_of effect outcome = rule_by effect outcome.conditions outcome.decision outcome.target
+-- the effect and then this outcome, by which who has the processor comes in
+abbrev pub rule_of : App → EffectCase → OutcomeCase → Rule
+rule_of app effect outcome = record {
+  conditions = effect.conditions ++ outcome.conditions;
+  changes = effect.changes ++ settling app effect.leaving.stay outcome.decision;
+  target = outcome.target;
+  decision = Some outcome.decision;
+  status = effect.leaving.status;
+}
 
 -- the rule is that of an effect and an outcome which is right wherever both pass
 pub record IsRuleOf (app : App) (p : Point) (entry : PlainEntry) (effect : EffectCase) (rule : Rule) : Type 0 where
   pub outcome : OutcomeCase
-  pub is : rule ≡ rule_of effect outcome
+  pub is : rule ≡ rule_of app effect outcome
   pub exact : (value : ℕ → PartValue) → AreValuesOf app p entry value → PassesAll app effect.conditions value → PassesAll app outcome.conditions value → HasOutcome app effect outcome value
 
 -- a rule of the effect is among these, whose outcome is the one decided
 pub record HasRuleFor (app : App) (effect : EffectCase) (rules : List Rule) (d : Decision) (value : ℕ → PartValue) : Type 0 where
   pub outcome : OutcomeCase
-  pub listed : Contains rules (rule_of effect outcome)
+  pub listed : Contains rules (rule_of app effect outcome)
   pub decision : outcome.decision ≡ d
   pub is : HasOutcome app effect outcome value
 

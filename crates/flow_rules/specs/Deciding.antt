@@ -4,15 +4,15 @@ use Rattle.osek_values.specs.declared.numbers.TaskNo.{TaskNo}
 use Rattle.osek_standard.specs.declared.app.App.{App}
 use Rattle.osek_standard.specs.declared.point.Point.{Point}
 use Rattle.osek_standard.specs.declared.point.Point.TheVariants as point
-use Rattle.abstract_state.specs.{declared.value.{Domain.{Domain}, PartValue.{PartValue}}, Components.{component_count}, Concrete.{val_of}}
+use Rattle.abstract_state.specs.{declared.{value.{Domain.{Domain}, PartValue.{PartValue}}, table.PlainEntry.{PlainEntry}}, Components.{component_count}, Concrete.{val_of}}
 use Rattle.flow_model.specs.declared.case.{Asked.{Asked}, Stay.{Stay}, Leaving.{Leaving}, Decision.{Decision}}
 use Rattle.flow_model.specs.declared.case.Asked.TheVariants as asked
 use Rattle.flow_model.specs.declared.case.Stay.TheVariants as stay
 use Rattle.flow_model.specs.declared.case.Decision.TheVariants as decision
-use Rattle.flow_model.specs.{Values.{is_live_value, block_of}, Effects.{AreIn}, Scheduling.{Decides}}
+use Rattle.flow_model.specs.{Values.{is_live_value, block_of}, Effects.{AreIn, stay_point}, Scheduling.{Decides, end_point}}
 use Rattle.numbered_sets.specs.{declared.numbered_entry.NumberedEntry.{NumberedEntry}, Numbers.{has_number, kept_numbers}, NumberedEntries.{numbers_at, AreFilled}, Pools.{Values, values_at, IsNumberOf}}
 use Rattle.numbered_sets.specs.Views.{plain_entry, AreNumbersOf}
-use Rattle.flow_exits.specs.{declared.{exit.Exit.{Exit}, claim.Claim.{Claim}}, Leaving.{IsDecided, HasDecided}, Claims.{limit_of, AreUnder}}
+use Rattle.flow_exits.specs.{declared.{exit.Exit.{Exit}, claim.Claim.{Claim}}, Exits.{IsFilled}, Claims.{limit_of, AreUnder}}
 use Rattle.flow_rules.specs.declared.{task_levels.{Level.{Level}, TaskLevels.{TaskLevels}}, levels.Levels.{Levels}}
 use Rattle.flow_rules.specs.declared.group.{NumberEnd.{NumberEnd}, Ends.{Ends}, ExitGroup.{ExitGroup}}
 use Rattle.flow_rules.specs.declared.group.Ends.TheVariants as ends
@@ -92,13 +92,34 @@ IsKnownDecision app (decision.To (Some w)) = w.0 < length app.tasks
 abbrev pub DecidesSo : App → Leaving → (ℕ → PartValue) → Decision → Type 0
 DecidesSo app leaving value d = Decides app value leaving d
 
--- These groups come to others: their exits are decided with values after the effect, and whatever is decided by values with a
--- property is one's.
+-- An exit that isn't settled yet: with each choice of its values, which are values after the effect, the scheduler decides as the
+-- exit says, and the step ends where it does.
+pub record IsUnsettled (app : App) (leaving : Leaving) (after : PlainEntry) (x : Exit) : Type 0 where
+  pub decision : Decision
+  pub decides : x.decision ≡ Some decision
+  pub status : x.status ≡ leaving.status
+  pub filled : IsFilled app x.entry
+  pub within : (value : ℕ → PartValue) → AreIn app x.entry value → AreIn app after value
+  pub each : (value : ℕ → PartValue) → AreIn app x.entry value → Decides app value leaving decision
+  pub target : (value : ℕ → PartValue) → AreIn app x.entry value → x.target ≡ end_point app value (stay_point leaving.stay value) decision
+
+-- one of these exits, which aren't settled yet, has the values, with which it is decided so
+pub record HasUnsettled (app : App) (leaving : Leaving) (exits : List Exit) (d : Decision) (value : ℕ → PartValue) : Type 0 where
+  pub exit : Exit
+  pub listed : Contains exits exit
+  pub decision : exit.decision ≡ Some d
+  pub status : exit.status ≡ leaving.status
+  pub within : AreIn app exit.entry value
+  pub target : exit.target ≡ end_point app value (stay_point leaving.stay value) d
+
+-- More groups come last: their exits are decided with values after the effect, and whatever is decided by values with a property
+-- is one's.
 pub record AddsFor (app : App) (pool : List Values) (leaving : Leaving) (after : NumberedEntry) (P : (ℕ → PartValue) → Decision → Type 0) (before now : List ExitGroup) : Type 0 where
-  pub known : AreKnownGroups pool before → AreKnownGroups pool now
-  pub kept : (x : Exit) → Contains (all_exits pool before) x → Contains (all_exits pool now) x
-  pub each : (x : Exit) → Contains (all_exits pool now) x → Contains (all_exits pool before) x ⊎ IsDecided app leaving (plain_entry pool after) x
-  pub whole : (value : ℕ → PartValue) (d : Decision) → AreIn app (plain_entry pool after) value → DecidesSo app leaving value d → P value d → HasDecided app leaving (all_exits pool now) d value
+  pub more : List ExitGroup
+  pub added : now ≡ before ++ more
+  pub known : AreKnownGroups pool more
+  pub each : (x : Exit) → Contains (all_exits pool more) x → IsUnsettled app leaving (plain_entry pool after) x
+  pub whole : (value : ℕ → PartValue) (d : Decision) → AreIn app (plain_entry pool after) value → DecidesSo app leaving value d → P value d → HasUnsettled app leaving (all_exits pool more) d value
 
 abbrev pub IsAny : (ℕ → PartValue) → Decision → Type 0
 IsAny value d = ⊤

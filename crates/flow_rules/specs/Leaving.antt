@@ -3,9 +3,11 @@ use Rattle.std.specs.Prelude.{◌≡◌, ◌⊎◌, ℕ, Bool, true, ◌==◌, �
 use Rattle.osek_standard.specs.declared.{app.App.{App}, point.Point.{Point}}
 use Rattle.abstract_state.specs.declared.table.PlainEntry.{PlainEntry}
 use Rattle.flow_model.specs.{declared.{case.EffectCase.{EffectCase}, rule.Rule.{Rule}}, Effects.{AreAllAllowed, HaveKnownStays, CoverEffects, AreExactEffects}}
-use Rattle.numbered_sets.specs.Pools.{Values, IsLonger}
-use Rattle.flow_exits.specs.{Arrivals.{AreArrivals}, declared.exit.Exit.{Exit}, Leaving.{IsOfEffects, HasExitsFor, IsArrivalExit, HasArrivalsFor}}
-use Rattle.flow_rules.specs.{declared.group.ExitGroup.{ExitGroup}, Groups.{all_exits, AreKnownGroups}}
+use Rattle.flow_model.specs.Rules.{Applies}
+use Rattle.numbered_sets.specs.{declared.numbered_entry.NumberedEntry.{NumberedEntry}, Pools.{Values, IsLonger}, Views.{plain_entry}}
+use Rattle.flow_exits.specs.{Arrivals.{AreArrivals}, declared.exit.Exit.{Exit}, Leaving.{IsOfEffects, HasExitsFor, IsArrivalExit, HasArrivalsFor, effect_rule}}
+use Rattle.flow_rules.specs.declared.{group.ExitGroup.{ExitGroup}, levels.Levels.{Levels}}
+use Rattle.flow_rules.specs.{Groups.{all_exits, AreKnownGroups}, Levels.{AreAllLevels}, Deciding.{IsWhole}}
 
 -- exits by which routines begin come to others, those of the rules with a property among them
 pub record AddsRoutines (app : App) (p : Point) (entry : PlainEntry) (P : Rule → Type 0) (pool : List Values) (before : List ExitGroup) (after : List Values) (now : List ExitGroup) : Type 0 where
@@ -40,6 +42,12 @@ pub record AddsArrivals (app : App) (p : Point) (entry : PlainEntry) (pool : Lis
   pub rules : List Rule
   pub are : AreArrivals app p rules
   pub added : AddsRoutines app p entry (Contains rules) pool before after now
+
+-- These are what the effect makes of the values that it takes, in a pool that grew, and all values have their levels there.
+pub record IsAfter (app : App) (effect : EffectCase) (entry : NumberedEntry) (pool grown : List Values) (levels : Levels) (after : NumberedEntry) : Type 0 where
+  pub all : AreAllLevels app grown levels
+  pub whole : IsWhole app grown after
+  pub applies : Applies (effect_rule effect) (plain_entry pool entry) (plain_entry grown after)
 
 -- the exits of these effects come to others
 pub record AddsEffects (app : App) (entry : PlainEntry) (effects : List EffectCase) (pool : List Values) (before : List ExitGroup) (after : List Values) (now : List ExitGroup) : Type 0 where

@@ -1,12 +1,15 @@
 -- The values of tasks by what the scheduler reads of them.
-use Rattle.std.specs.Prelude.{◌≡◌, ◌⊎◌, ℕ, ◌<◌, ◌≤◌, ◌+◌, ◌&&◌, Bool, false, List, length, slice_index_or, slice_set, IsTrue, Contains}
-use Rattle.osek_standard.specs.declared.app.App.{App}
-use Rattle.abstract_state.specs.{declared.value.PartValue.{PartValue}, Concrete.{val_of}}
-use Rattle.flow_model.specs.Values.{is_live_value, value_priority}
+use Rattle.std.specs.Prelude.{◌≡◌, ◌≢◌, ◌⊎◌, ℕ, ◌<◌, ◌≤◌, ◌+◌, ◌&&◌, Bool, false, List, [], length, map, slice_index_or, slice_set, IsTrue, is_some, Contains}
+use Rattle.osek_values.specs.{Numbers.{task_no}, declared.numbers.TaskNo.{TaskNo}}
+use Rattle.osek_standard.specs.{declared.app.App.{App}, Internal.{internal_of}}
+use Rattle.abstract_state.specs.declared.value.Component.TheVariants as component
+use Rattle.abstract_state.specs.{declared.value.PartValue.{PartValue}, Concrete.{val_of}, Domains.{domain_of}}
+use Rattle.flow_model.specs.declared.change.Update.TheVariants as update
+use Rattle.flow_model.specs.{Values.{is_live_value, value_priority}, Tests.{updated}}
 use Rattle.numbered_sets.specs.{declared.numbered_entry.NumberedEntry.{NumberedEntry}, Numbers.{Numbers, has_number, meets}, NumberedEntries.{numbers_at}}
-use Rattle.numbered_sets.specs.Pools.{Values, values_at}
+use Rattle.numbered_sets.specs.Pools.{Values, values_at, domain_at, IsNumberOf}
 use Rattle.flow_exits.specs.Claims.{is_below}
-use Rattle.flow_rules.specs.declared.{task_levels.{Level.{Level}, TaskLevels.{TaskLevels}}, levels.Levels.{Levels}}
+use Rattle.flow_rules.specs.declared.{insides.Insides.{Insides}, task_levels.{Level.{Level}, TaskLevels.{TaskLevels}}, levels.Levels.{Levels}}
 
 -- with this value task u is Live, at this current priority
 pub record IsLiveAt (app : App) (u p : ℕ) (v : PartValue) : Type 0 where
@@ -39,16 +42,50 @@ pub record AreTaskLevels (app : App) (u : ℕ) (vs : List PartValue) (x : TaskLe
 abbrev pub with_next : TaskLevels → TaskLevels
 with_next x = record x { judged = x.judged + 1 }
 
+-- the first values of a task, each with the number of the same value inside
+pub record AreInside (vs : List PartValue) (x : Insides) : Type 0 where
+  pub few : length x.numbers ≤ length vs
+  pub each : (n : ℕ) (v : PartValue) → n < length x.numbers → IsNumberOf vs v n → IsNumberOf vs (updated update.Inside v) (slice_index_or x.numbers n 0)
+
+abbrev pub inside_tasks : List Insides → List TaskNo
+inside_tasks insides = map (λ (x : Insides). x.task) insides
+
+-- of the tasks below n those that name an INTERNAL resource, none twice
+pub record AreNaming (app : App) (n : ℕ) (tasks : List TaskNo) : Type 0 where
+  pub each : (t : TaskNo) → Contains tasks t → (t.0 < n) × IsTrue (is_some (internal_of app t.0))
+  pub some : (t : ℕ) → t < n → IsTrue (is_some (internal_of app t)) → Contains tasks (task_no t)
+  pub once : (i j : ℕ) (d e : TaskNo) → i < j → j < length tasks → (slice_index_or tasks i d).0 ≢ (slice_index_or tasks j e).0
+
+-- nothing was seen yet of these tasks
+pub record AreNoInsides (app : App) (insides : List Insides) : Type 0 where
+  pub tasks : AreNaming app (length app.tasks) (inside_tasks insides)
+  pub none : (i : ℕ) (d : Insides) → i < length insides → (slice_index_or insides i d).numbers ≡ []
+
+-- the values inside of the tasks that name an INTERNAL resource; some that came in since the last time may be missing
+pub record AreInsides (app : App) (pool : List Values) (insides : List Insides) : Type 0 where
+  pub tasks : AreNaming app (length app.tasks) (inside_tasks insides)
+  pub each : (i : ℕ) (d : Insides) → i < length insides → AreInside (values_at pool (slice_index_or insides i d).task.0) (slice_index_or insides i d)
+
+-- none is missing
+abbrev pub AreAllInside : List Values → List Insides → Type 0
+AreAllInside pool insides = (i : ℕ) (d : Insides) → i < length insides → length (slice_index_or insides i d).numbers ≡ length (values_at pool (slice_index_or insides i d).task.0)
+
+-- the values of each task are those of its domain
+abbrev pub HaveTaskDomains : App → List Values → Type 0
+HaveTaskDomains app pool = (t : ℕ) → t < length app.tasks → domain_at pool t ≡ domain_of app (component.Task (task_no t))
+
 module _ (app : App) (pool : List Values) (levels : Levels) where
   -- So it is for each task. Values that came in since the last time may be missing.
   pub record AreLevels : Type 0 where
     pub size : length levels.tasks ≡ length app.tasks
     pub each : (u : ℕ) (d : TaskLevels) → u < length app.tasks → AreTaskLevels app u (values_at pool u) (slice_index_or levels.tasks u d)
+    pub insides : AreInsides app pool levels.insides
 
   -- All values of the pool are there.
   pub record AreAllLevels : Type 0 where
     pub are : AreLevels
     pub all : (u : ℕ) (d : TaskLevels) → u < length app.tasks → (slice_index_or levels.tasks u d).judged ≡ length (values_at pool u)
+    pub inside : AreAllInside pool levels.insides
 
 -- some level that has one of these numbers is below the limit
 pub record HasLevelBelow (levels : List Level) (x : Numbers) (limit : ℕ) : Type 0 where

@@ -8,6 +8,7 @@ pub mod Sifting
 pub mod Groups
 pub mod Narrowing
 pub mod Deciding
+pub mod Settling
 pub mod AfterEffect
 pub mod Leaving
 pub mod Allowed

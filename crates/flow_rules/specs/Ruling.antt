@@ -1,13 +1,13 @@
 -- Rules out of the exits of an effect.
-use Rattle.std.specs.{Prelude.{◌≡◌, List, [], ◌∷◌, ◌++◌, map, if◌then◌else◌, Some, None, Contains}, List.{flat_map}, declared.option.Option.{Option}}
+use Rattle.std.specs.{Prelude.{◌≡◌, ℕ, List, [], ◌∷◌, ◌++◌, map, if◌then◌else◌, Some, None, Contains}, List.{flat_map}, declared.option.Option.{Option}}
 use Rattle.osek_standard.specs.declared.app.App.{App}
 use Rattle.abstract_state.specs.declared.{value.{Component.{Component}, ComponentNo.{ComponentNo}, PartValue.{PartValue}}, table.{ValueSet.{ValueSet}, PlainEntry.{PlainEntry}}}
 use Rattle.abstract_state.specs.{Components.{components, component_number, component_no}, Tables.{set_at, is_member}}
 use Rattle.flow_model.specs.declared.{case.{Decision.{Decision}, EffectCase.{EffectCase}, OutcomeCase.{OutcomeCase}}, change.Change.{Change}, rule.Rule.{Rule}, test.Condition.{Condition}}
 use Rattle.flow_model.specs.declared.test.Test.TheVariants as test
-use Rattle.flow_model.specs.Tests.{value_after}
-use Rattle.flow_exits.specs.{declared.exit.Exit.{Exit}, Leaving.{IsOfEffects, HasExitsFor}}
-use Rattle.flow_rules.specs.Assembly.{rule_of}
+use Rattle.flow_model.specs.{Tests.{PassesAll, value_after, values_after}, Effects.{AreIn}, Scheduling.{Decides}}
+use Rattle.flow_exits.specs.declared.exit.Exit.{Exit}
+use Rattle.flow_rules.specs.{Assembly.{rule_of}, Deciding.{IsUnsettled, HasUnsettled}}
 
 -- a value is barred of which the changes make none that is kept
 abbrev pub bars : List Change → ValueSet → ComponentNo → PartValue → List Condition
@@ -31,9 +31,11 @@ outcome_if app changes from x (Some d) = outcome_by app changes from x d ∷ []
 abbrev pub outcomes_by : App → List Change → PlainEntry → Exit → List OutcomeCase
 outcomes_by app changes from x = outcome_if app changes from x x.decision
 
--- The rules of an effect come to others, one for each of its exits from the values of an entry.
+-- The rules of an effect come to others, one for each of its exits from the values of an entry, before these are settled.
 pub record AddsRulesOf (app : App) (from : PlainEntry) (effect : EffectCase) (before after : List Rule) : Type 0 where
+  pub made : PlainEntry
   pub exits : List Exit
-  pub each : (x : Exit) → Contains exits x → IsOfEffects app (effect ∷ []) from x
-  pub whole : HasExitsFor app effect from exits
-  pub added : after ≡ before ++ map (rule_of effect) (flat_map (outcomes_by app effect.changes from) exits)
+  pub each : (x : Exit) → Contains exits x → IsUnsettled app effect.leaving made x
+  pub whole : (value : ℕ → PartValue) (d : Decision) → AreIn app from value → PassesAll app effect.conditions value → Decides app (values_after effect.changes value) effect.leaving d →
+      HasUnsettled app effect.leaving exits d (values_after effect.changes value)
+  pub added : after ≡ before ++ map (rule_of app effect) (flat_map (outcomes_by app effect.changes from) exits)

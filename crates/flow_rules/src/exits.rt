@@ -1,11 +1,11 @@
 //! All exits of a point.
-ghost use Rattle.std.specs.Prelude.{◌≡◌, ◌∷◌, [], IfOk, OnOk};
+ghost use Rattle.std.specs.Prelude.{◌≡◌, ◌∷◌, [], IfOk, OnOk, IfSome, IfNone};
 ghost use Rattle.osek_standard.specs.Points.{IsPoint};
 ghost use Rattle.abstract_state.specs.Domains.{domains_of};
-ghost use Rattle.flow_model.specs.Effects.{AreAllAllowed, IsKnownStay};
+ghost use Rattle.flow_model.specs.{Effects.{AreAllAllowed, IsKnownStay}, Rules.{HasNone}};
 ghost use Rattle.numbered_sets.specs.{NumberedEntries.{number_domains, AreFilled}, Pools.{IsLonger}, Views.{plain_entry, AreNumbersOf}};
 ghost use Rattle.flow_exits.specs.Leaving.{AreExits, effect_rule};
-ghost use Rattle.flow_rules.specs.{Levels.{AreLevels}, Applying.{KeepsDomains}, Groups.{all_exits, AreKnownGroups}, Leaving.{AddsEffects, AddsInstructions}};
+ghost use Rattle.flow_rules.specs.{Levels.{AreLevels}, Applying.{KeepsDomains}, Groups.{all_exits, AreKnownGroups}, Leaving.{IsAfter, AddsEffects, AddsInstructions}};
 
 use crate::after_effect::AfterEffect;
 use crate::applying::applied;
@@ -13,6 +13,7 @@ use crate::arriving::push_arrivals;
 use crate::before_effect::BeforeEffect;
 use crate::group::ExitGroup;
 use crate::levels::Levels;
+use crate::settling::Settling;
 use abstract_state::Point;
 use flow_effects::effect_cases;
 use flow_model::{EffectCase, Runner};
@@ -100,6 +101,44 @@ impl<'a> BeforeEffect<'a> {
         ensures levels { OnOk result (AreLevels self.now.app.now pool.new levels.new) }
         ensures added { OnOk result (AddsEffects self.now.app.now (plain_entry pool.old self.now.before.now) (effect.now ∷ []) pool.old groups.old.items pool.new groups.new.items) }
     {
+        let Some(after) = self.after(alloc, effect, pool, levels)? else {
+            return Ok(());
+        };
+        let from = groups.len();
+        AfterEffect {
+            app: self.app,
+            pool: &*pool,
+            levels: &*levels,
+            leaving: effect.leaving,
+            after,
+        }
+        .push_decided(alloc, groups)?;
+        Settling {
+            app: self.app,
+            pool: &*pool,
+            levels: &*levels,
+            stay: effect.leaving.stay,
+        }
+        .settle(alloc, from, groups)
+    }
+
+    /// What an effect makes of the values that it takes, and their levels with those of all values inside.
+    pub fn after(
+        &self,
+        alloc: Global,
+        effect: &EffectCase,
+        pool: &mut Pool,
+        levels: &mut Levels,
+    ) -> Result<Option<NumberedEntry>, Memory>
+        requires numbers { AreNumbersOf pool.old self.now.before.now }
+        requires domains { number_domains self.now.before.now ≡ domains_of self.now.app.now }
+        requires kept { KeepsDomains (effect_rule effect.now) (plain_entry pool.old self.now.before.now) }
+        requires levels { AreLevels self.now.app.now pool.old levels.old }
+        ensures pool { IsLonger pool.old pool.new }
+        ensures levels { OnOk result (AreLevels self.now.app.now pool.new levels.new) }
+        ensures some { IfOk result (λ after. IfSome after (IsAfter self.now.app.now effect.now self.now.before.now pool.old pool.new levels.new)) }
+        ensures none { IfOk result (λ after. IfNone after (HasNone (effect_rule effect.now) (plain_entry pool.old self.now.before.now))) }
+    {
         let Some(after) = applied(
             alloc,
             &effect.conditions,
@@ -108,16 +147,9 @@ impl<'a> BeforeEffect<'a> {
             self.before,
         )?
         else {
-            return Ok(());
+            return Ok(None);
         };
         levels.renew(alloc, self.app, pool)?;
-        AfterEffect {
-            app: self.app,
-            pool: &*pool,
-            levels: &*levels,
-            leaving: effect.leaving,
-            after,
-        }
-        .push_decided(alloc, groups)
+        Ok(Some(after))
     }
 }

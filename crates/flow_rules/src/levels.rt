@@ -1,21 +1,26 @@
 //! The values of all tasks by what the scheduler reads of them.
-ghost use Rattle.std.specs.Prelude.{◌≡◌};
+ghost use Rattle.std.specs.Prelude.{◌≡◌, IfOk};
+ghost use Rattle.flow_rules.specs.Levels.{AreNoInsides};
 
+use crate::insides::Insides;
 use crate::task_levels::TaskLevels;
 use numbered_sets::Pool;
 use osek_standard::App;
 use osek_values::{Memory, Seq, TaskNo};
 use std::alloc::Global;
 
-/// For each task the numbers of its values by what the scheduler reads of them.
+/// For each task the numbers of its values by what the scheduler reads of them, and for those that name an INTERNAL resource those
+/// of the same values inside.
 #[derive(Drop)]
 pub struct Levels {
     pub tasks: Seq<TaskLevels>,
+    pub insides: Seq<Insides>,
 }
 
 impl Levels {
     ghost use Rattle.std.specs.Prelude.{◌≡◌, ◌<◌, ◌≤◌, length, slice_index_or, IfOk, OnOk};
-    ghost use Rattle.flow_rules.specs.{declared.task_levels.TaskLevels.{TaskLevels}, Levels.{AreLevels, AreAllLevels}};
+    ghost use Rattle.numbered_sets.specs.Pools.{IsLonger};
+    ghost use Rattle.flow_rules.specs.{declared.task_levels.TaskLevels.{TaskLevels}, Levels.{HaveTaskDomains, AreAllInside, AreLevels, AreAllLevels}};
 
     /// No value was judged yet.
     pub fn new(alloc: Global, app: &App, pool: &Pool) -> Result<Levels, Memory>
@@ -26,13 +31,44 @@ impl Levels {
         for task in 0..app.tasks.len() {
             tasks.push(TaskLevels::new(alloc, pool.domain(task)))?;
         }
-        Ok(Levels { tasks })
+        let insides = no_insides(alloc, app)?;
+        Ok(Levels { tasks, insides })
     }
 
-    /// Judges the values that came in since the last time. Where memory is wanted some may be missing.
-    pub fn renew(&mut self, alloc: Global, app: &App, pool: &Pool) -> Result<(), Memory>
+    /// Judges the values that came in since the last time. Of a task that names an INTERNAL resource the same values inside
+    /// come in too. Where memory is wanted some may be missing.
+    pub fn renew(&mut self, alloc: Global, app: &App, pool: &mut Pool) -> Result<(), Memory>
+        requires pool { length app.now.tasks ≤ length pool.old }
+        requires domains { HaveTaskDomains app.now pool.old }
+        requires levels { AreLevels app.now pool.old self.old }
+        ensures pool { IsLonger pool.old pool.new }
+        ensures levels { OnOk result (AreAllLevels app.now pool.new self.new) }
+    {
+        self.bring_in(app, pool)?;
+        self.judge(alloc, app, pool)
+    }
+
+    // brings in the values inside of the tasks that name an INTERNAL resource
+    fn bring_in(&mut self, app: &App, pool: &mut Pool) -> Result<(), Memory>
+        requires pool { length app.now.tasks ≤ length pool.old }
+        requires domains { HaveTaskDomains app.now pool.old }
+        requires levels { AreLevels app.now pool.old self.old }
+        ensures pool { IsLonger pool.old pool.new }
+        ensures levels { OnOk result (AreLevels app.now pool.new self.new) }
+        ensures all { OnOk result (AreAllInside pool.new self.new.insides) }
+    {
+        for place in 0..self.insides.len() {
+            let insides = self.insides.at_mut(place);
+            insides.renew(pool)?;
+        }
+        Ok(())
+    }
+
+    // judges the values
+    fn judge(&mut self, alloc: Global, app: &App, pool: &Pool) -> Result<(), Memory>
         requires pool { length app.now.tasks ≤ length pool.now }
         requires levels { AreLevels app.now pool.now self.old }
+        requires inside { AreAllInside pool.now self.old.insides }
         ensures { OnOk result (AreAllLevels app.now pool.now self.new) }
     {
         for task in 0..app.tasks.len() {
@@ -49,4 +85,18 @@ impl Levels {
     {
         self.tasks.at(task.index())
     }
+}
+
+// nothing inside was seen yet of the tasks that name an INTERNAL resource
+fn no_insides(alloc: Global, app: &App) -> Result<Seq<Insides>, Memory>
+    ensures { IfOk result (AreNoInsides app.now) }
+{
+    let mut insides = Seq::new(alloc);
+    for task in 0..app.tasks.len() {
+        let task = TaskNo(task as u8);
+        if app.task(task).internal.is_some() {
+            insides.push(Insides::new(alloc, task))?;
+        }
+    }
+    Ok(insides)
 }

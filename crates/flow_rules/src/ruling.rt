@@ -8,6 +8,7 @@ ghost use Rattle.flow_exits.specs.Leaving.{effect_rule};
 ghost use Rattle.flow_rules.specs.{Instructions.{AddsInstructionRules as AddsInstructionRules}, Applying.{KeepsDomains}, Levels.{AreLevels}};
 ghost use Rattle.flow_rules.specs.{Groups.{exit_at as exit_of_group, exits_of, all_exits, IsKnownGroup, AreKnownGroups}, Ruling.{outcomes_by, AddsRulesOf}};
 
+use crate::after_effect::AfterEffect;
 use crate::allowing::allowed_part;
 use crate::assembly::add_rules;
 use crate::barring::barred;
@@ -110,16 +111,27 @@ impl<'a> Ruled<'a> {
         ensures levels { OnOk result (AreLevels self.now.app.now pool.new levels.new) }
         ensures added { OnOk result (AddsRulesOf self.now.app.now self.now.from.now effect.now rules.old rules.new) }
     {
-        let mut groups = Vec::new(alloc);
         let before = BeforeEffect {
             app: self.app,
             before: self.numbers,
         };
-        before.push_effect(alloc, effect, pool, levels, &mut groups)?;
+        let Some(after) = before.after(alloc, effect, pool, levels)? else {
+            return Ok(());
+        };
+        // the conditions are on what isn't settled yet: a task may come in from values with which another thing is decided
+        let mut groups = Vec::new(alloc);
+        AfterEffect {
+            app: self.app,
+            pool: &*pool,
+            levels: &*levels,
+            leaving: effect.leaving,
+            after,
+        }
+        .push_decided(alloc, &mut groups)?;
         let exits = exits(alloc, pool, groups.as_slice())?;
         let changes = effect.changes.as_slice();
         let outcomes = outcomes(alloc, self.app, changes, self.from, exits.as_slice())?;
-        add_rules(alloc, effect, outcomes.as_slice(), rules)
+        add_rules(alloc, self.app, effect, outcomes.as_slice(), rules)
     }
 }
 

@@ -1,5 +1,6 @@
 -- ActivateTask is served by its three cases.
-use Rattle.std.proofs.Common.{◌≡◌, ℕ, ◌<◌, Bool, true, false, [], ◌∷◌, ◌++◌, length, refl, sym, ap, subst, ◌∙◌, arith}
+use Rattle.std.proofs.Common.{◌≡◌, ℕ, ◌+◌, ◌<◌, ◌≤◌, Bool, true, false, nat_lt, [], ◌∷◌, ◌++◌, length, refl, sym, ap, subst, ◌∙◌, arith, inl, inr, ⊎_elim}
+use Rattle.std.proofs.lemmas.Bool.{le-leb, ltb-false}
 use Rattle.osek_values.specs.Numbers.{task_no}
 use Rattle.std.specs.Prelude.{if◌then◌else◌}
 use Rattle.osek_values.specs.declared.status.Ask.TheVariants as ask
@@ -9,11 +10,12 @@ use Rattle.osek_standard.specs.declared.task_state.Activity.TheVariants as activ
 use Rattle.osek_standard.specs.{TaskStates.{is_live, is_suspended, is_suspended_activity, is_live_activity}, States.{task_state, with_task}, Line.{last_in_line}}
 use Rattle.osek_standard.specs.Services.{Answer, activate_task, activated, activated_by, activated_state, is_full, is_full_by, refused, accepted}
 use Rattle.flow_model.specs.declared.test.Test.TheVariants as test
-use Rattle.flow_model.specs.{Cases.{condition}, Changes.{activating, activating_more}}
+use Rattle.flow_model.specs.{Cases.{condition}, Changes.{activating, activating_more}, Tests.{PassesAll}}
+use Rattle.abstract_state.specs.Components.{abstract_of}
 use Rattle.flow_model.proofs.{Activations.{activated_parts, more_parts, more_place}, LinesAfter.{line_with_last, line_with_more}}
 use Rattle.flow_services.specs.declared.occasion.Queued.TheVariants as queued
 use Rattle.flow_services.specs.{Occasions.{ServiceCase, refused_case, accepted_case}, Services.{activations, most_activations}}
-use Rattle.flow_services.proofs.{Seeing.{Sees, off_there, full_there, room_there, activation_passes}, Serving.{Serves, IsServed, keeps_serves, stays_in_line, stays_with, three_served}}
+use Rattle.flow_services.proofs.{Seeing.{Sees, off_there, full_there, room_there, activation_passes}, Serving.{Serves, IsServed, keeps_serves, stays_in_line, stays_with, two_served, three_served}}
 
 suspended_or_live : (a : Activity) → is_suspended_activity a ≡ true → is_live_activity a ≡ true → ⊥
 suspended_or_live activity.Suspended e l = cc
@@ -35,6 +37,12 @@ pub live_by_room : (n : ℕ) (a : Activity) → is_suspended_activity a ≡ fals
 live_by_room n activity.Suspended e room = absurd (cc)
 live_by_room n (activity.Live x) e room = refl
 live_by_room n (activity.Waiting b) e room = absurd (cc)
+
+-- a task that takes a single activation has never room for a further one
+no_room_for_one : (n : ℕ) (a : Activity) → n ≤ 1 → (is_suspended_activity a ≡ false) × (is_full_by n a ≡ false) → ⊥
+no_room_for_one n activity.Suspended few takes = let on = takes.0 in cc
+no_room_for_one n (activity.Live x) few takes = let full = le-leb n (x.further + 1) (omega (arith, few)) in let room = takes.1 in cc
+no_room_for_one n (activity.Waiting b) few takes = let room = takes.1 in cc
 
 -- a suspended task begins
 module _ (app : App) (t : ℕ) where
@@ -98,9 +106,19 @@ module _ (app : App) (s m : State) (t : ℕ) (known : t < length app.tasks) (see
         line = line_with_more m (activated app m t) (task_no t) refl (λ waits. sees.placed t live waits);
       })
 
-  pub activation_served : IsServed app s m (activations app t) (activate_task app m t)
-  activation_served = three_served app s m full free more (activate_task app m t)
-      (λ passing. full_serves (full_there app s m t known sees most passing))
-      (λ passing. free_serves (off_there app s m t known sees passing))
+  by_full : PassesAll app full.conditions (abstract_of app s) → Serves app m full (activate_task app m t)
+  by_full passing = full_serves (full_there app s m t known sees most passing)
+
+  by_free : PassesAll app free.conditions (abstract_of app s) → Serves app m free (activate_task app m t)
+  by_free passing = free_serves (off_there app s m t known sees passing)
+
+  served_by : (b : Bool) → nat_lt 1 most ≡ b → IsServed app s m (full ∷ free ∷ (if b then more ∷ [] else [])) (activate_task app m t)
+  served_by true e = three_served app s m full free more (activate_task app m t) by_full by_free
       (λ passing. more_serves (room_there app s m t known sees most passing))
       (activation_passes app s t most known)
+  served_by false e = two_served app s m full free (activate_task app m t) by_full by_free
+      (⊎_elim inl (⊎_elim inr (λ passing. absurd (no_room_for_one most (task_state m t).activity (ltb-false 1 most e) (room_there app s m t known sees most passing))))
+      (activation_passes app s t most known))
+
+  pub activation_served : IsServed app s m (activations app t) (activate_task app m t)
+  activation_served = served_by (nat_lt 1 most) refl

@@ -66,13 +66,18 @@ module _ (app : App) where
   abbrev pub most_activations : ℕ → ℕ
   most_activations x = (the_task app x).activation
 
-  -- ActivateTask: LIMIT where the task takes no further activation. A suspended task begins, and goes last in the line; a Live
-  -- one keeps the activation for later, and has a place more.
+  -- a Live task that has room keeps an activation for later, and has a place more: one that takes a single activation never has
+  abbrev pub further_activations : ℕ → List ServiceCase
+  further_activations x =
+      if nat_lt 1 (most_activations x) then accepted_case (condition x (test.Room (most_activations x)) ∷ []) (activating_more x) queued.Further ∷ []
+      else []
+
+  -- ActivateTask: LIMIT where the task takes no further activation. A suspended task begins, and goes last in the line.
   abbrev pub activations : ℕ → List ServiceCase
   activations x =
       refused_case (condition x (test.Full (most_activations x)) ∷ []) status.Limit
       ∷ accepted_case (condition x test.Suspended ∷ []) (activating app x) (queued.Last (task_no x))
-      ∷ accepted_case (condition x (test.Room (most_activations x)) ∷ []) (activating_more x) queued.Further ∷ []
+      ∷ further_activations x
 
   -- at the block a task waits for one of these events
   abbrev pub awaits : ℕ → BlockNo → Bool

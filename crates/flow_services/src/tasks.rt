@@ -4,7 +4,7 @@ ghost use Rattle.osek_values.specs.Bits.{has_bit as has_bit_of};
 ghost use Rattle.osek_standard.specs.Apps.{the_task};
 ghost use Rattle.abstract_state.specs.{declared.value.Val.TheVariants.{Live}, Components.{live_val}};
 ghost use Rattle.flow_model.specs.Changes.{event_changes, task_change, activating, activating_more};
-ghost use Rattle.flow_services.specs.{Occasions.{case_at}, Services.{activations}};
+ghost use Rattle.flow_services.specs.{Occasions.{case_at}, Services.{activations, further_activations}};
 
 use crate::occasion::{Occasion, Queued, only, task_component};
 use abstract_state::{Component, LiveVal, PartValue, Val, component_number};
@@ -94,9 +94,27 @@ pub fn add_activations(
     let mut begun = occasion.begun(alloc)?;
     add_activating(app, task, &mut begun)?;
     cases.push(occasion.accepted(free, begun, Queued::Last(task))?)?;
-    let room = only(alloc, component, Test::Room(most))?;
+    add_further_activations(alloc, app, occasion, task, cases)?;
+    Ok(())
+}
+
+// adds the case of a Live task that has room for a further activation, where it takes several
+fn add_further_activations(
+    alloc: Global,
+    app: &App,
+    occasion: Occasion,
+    task: TaskNo,
+    cases: &mut Seq<EffectCase>,
+) -> Result<(), Memory>
+    requires { task.0 < length app.now.tasks }
+    ensures { OnOk result (cases.new ≡ cases.old ++ map (case_at occasion) (further_activations app.now task.0)) }
+{
+    let most = app.task(task).activation;
+    if most <= 1 {
+        return Ok(());
+    }
+    let room = only(alloc, task_component(task), Test::Room(most))?;
     let mut more = occasion.begun(alloc)?;
     add_activating_more(task, &mut more)?;
-    cases.push(occasion.accepted(room, more, Queued::Further)?)?;
-    Ok(())
+    cases.push(occasion.accepted(room, more, Queued::Further)?)
 }

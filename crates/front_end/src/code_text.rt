@@ -1,7 +1,7 @@
 //! The application that a task code text gives.
-ghost use Rattle.std.specs.Prelude.{◌≡◌, IfOk, Result};
+ghost use Rattle.std.specs.Prelude.{◌≡◌, Result};
 ghost use Rattle.osek_values.specs.declared.refusal.Refusal.{Refusal};
-ghost use Rattle.osek_standard.specs.{declared.app.App.{App}, Versions.{FitsVersion1}};
+ghost use Rattle.osek_standard.specs.declared.app.App.{App};
 ghost use Rattle.oil_model.specs.Linkable.{IsLinkable};
 ghost use Rattle.osek_values.specs.declared.refusal.TextFile.TheVariants as file;
 ghost use Rattle.osek_values.specs.declared.refused.Refused.TheVariants as errors;
@@ -29,8 +29,7 @@ fn refused(line: u32, rule: Rule) -> TextError
 
 fn read(alloc: Global, system: System, text: &[u8]) -> Result<App, TextError>
     requires { IsLinkable system }
-    ensures right { IsRight (λ r. IsCodeAnswer r system text.now) result }
-    ensures version_1 { IfOk result (λ app. FitsVersion1 app.tasks) }
+    ensures { IsRight (λ r. IsCodeAnswer r system text.now) result }
 {
     let tokens = match tokens(text) {
         Ok(tokens) => tokens,
@@ -61,9 +60,8 @@ fn read(alloc: Global, system: System, text: &[u8]) -> Result<App, TextError>
 pub fn read_app(alloc: Global, system: System, text: &[u8]) -> Result<App, TextError>
     requires linkable { IsLinkable system }
 
-    // What is answered is right, and fits an image of version 1,
+    // What is answered is right,
     ensures right { IsRight (λ r. IsCodeAnswer r system text.now) result }
-    ensures version_1 { IfOk result (λ app. FitsVersion1 app.tasks) }
 
     // and what is right is answered, unless memory runs out.
     ensures exact { (expected : Result App Refusal) → IsCodeAnswer expected system text.now → Answers result expected }

@@ -3,13 +3,13 @@ use Rattle.std.proofs.Common.{◌≡◌, ℕ, ◌+◌, ◌*◌, ◌<◌, ◌≤�
 use Rattle.std.specs.{Prelude.{is_some, filter, if◌then◌else◌}, List.{list_any, flat_map, position, position_or_len}, Str.{bytes_eq}}
 use Rattle.std.proofs.lemmas.{Bool.{or_from, or_left, or_right, lt-ltb, cases_eq}, List.{length-append, Folds.{list_any-append}}, Slice.Eq.{bytes_eq-Decides}}
 use Rattle.std.proofs.Math.ListN.{drop_of_length-le}
-use Rattle.osek_values.specs.{Lines.{IsIn}, declared.refusal.CodeRule.{CodeRule, TheVariants.{C1, C2, C3, C4, C6, C7, C8, C9}}}
+use Rattle.osek_values.specs.{Lines.{IsIn}, declared.refusal.CodeRule.{CodeRule, TheVariants.{C1, C2, C3, C4, C6, C7, C8, C9, C10}}}
 use Rattle.oil_system.specs.declared.{objects.{Alarm.{Alarm}, Resource.{Resource}}, system.{TaskObject.{TaskObject}, EventObject.{EventObject}, System.{System}}}
 use Rattle.oil_tree.specs.declared.tree.Object.{Object}
-use Rattle.oil_model.specs.{Objects.{name_of}, Rules.{repeated}, Systems.{modes, events, names_of, task, alarm as alarm_of_object, system_of}}
+use Rattle.oil_model.specs.{Objects.{name_of}, Rules.{repeated}, Systems.{modes, events, resources, names_of, task, alarm as alarm_of_object, system_of}}
 use Rattle.task_code.specs.{declared.tree.{Body.{Body}, BodyKind.TheVariants.{Task, Isr}, Code.{Code}}, Statements.{Statements, closed, closing_line}}
 use Rattle.block_graph.specs.{Faults.{HasNoFault}, Locks.{walked, unpaired}, Names.{task_of, isr_of, alarm_of, resource_of, event_of}}
-use Rattle.block_graph.specs.Rules.{is_code_of, line_of_body, lacks_code, is_stray, has_same_owner, from_calls, undeclared, undeclared_in, isr_resources_by, statement_lines, block_lines, first_only, lines}
+use Rattle.block_graph.specs.Rules.{is_code_of, line_of_body, lacks_code, is_stray, has_same_owner, from_calls, undeclared, undeclared_in, internal_at, internal_in, isr_resources_by, statement_lines, block_lines, first_only, lines}
 use Rattle.generated_texts.proofs.{Rows.{AllFrom}, TaskNames.{task_name}, OilSentence.{tasks_from, oil_objects}}
 use Rattle.generated_texts.proofs.OilSentence as oil
 use Rattle.generated_texts.proofs.OilRules.{names_apart, tasks_only, alarm_only, isr_counted}
@@ -27,6 +27,9 @@ place_inside p (x ∷ xs) any = place_by p x xs (p x) refl (place_inside p xs) a
 
 found : {X : Type 0} (p : X → Bool) (xs : List X) → list_any p xs ≡ true → is_some (position p xs) ≡ true
 found p xs any = rw (lt-ltb (position_or_len p xs) (length xs) (place_inside p xs any)) refl
+
+at_first : {X : Type 0} (p : X → Bool) (xs : List X) → position_or_len p xs ≡ 0 → list_any p xs ≡ true → position p xs ≡ Some 0
+at_first p xs first any = rw (lt-ltb (position_or_len p xs) (length xs) (place_inside p xs any)) (ap Some first)
 
 declared : (o : Option ℕ) (line : ℕ) → is_some o ≡ true → undeclared o line ≡ []
 declared None line some = absurd cc
@@ -88,6 +91,7 @@ record Knows (s : System) (n : ℕ) : Type 0 where
   alarm : is_some (alarm_of s (codes "A")) ≡ true
   resource : is_some (resource_of s (codes "R")) ≡ true
   event : is_some (event_of s (codes "E")) ≡ true
+  takable : (line : ℕ) → internal_at s (resource_of s (codes "R")) line ≡ []
 
 module _ (s : System) (n : ℕ) (knows : Knows s n) where
   named_step : (step : Step) (line : ℕ) (next : Statements) → IsAmong n step → from_calls (undeclared_in s) (step_then line step next) ≡ from_calls (undeclared_in s) next
@@ -111,6 +115,24 @@ module _ (s : System) (n : ℕ) (knows : Knows s n) where
   named_bodies i line (steps ∷ bodies) task among h =
       rw (named_steps steps.0 0 (line + 1 + 1) (loop_end line steps) among.0.0.1, named_steps steps.1 0 (loop_end line steps + 1) (body_end line steps) among.0.1.1)
       (named_bodies (i + 1) (body_end line steps + 1) bodies task among.1 h)
+
+  -- no call takes or gives back an INTERNAL resource
+  takable_step : (step : Step) (line : ℕ) (next : Statements) → from_calls (internal_in s) (step_then line step next) ≡ from_calls (internal_in s) next
+  takable_step works line next = refl
+  takable_step (activates task) line next = refl
+  takable_step takes line next = λ i. knows.takable line i ++ from_calls (internal_in s) next
+  takable_step gives line next = λ i. knows.takable line i ++ from_calls (internal_in s) next
+  takable_step _ line next = refl
+
+  takable_steps : (steps : List Step) (line close : ℕ) → from_calls (internal_in s) (steps_then line steps (closed close)) ≡ []
+  takable_steps [] line close = refl
+  takable_steps (step ∷ steps) line close = takable_step step line (steps_then (line + 1) steps (closed close)) ∙ takable_steps steps (line + 1) close
+
+  takable_bodies : (i line : ℕ) (bodies : List Steps) (task : ℕ) → flat_map (λ (body : Body). from_calls (internal_in s) body.statements) (bodies_from i line bodies task) ≡ []
+  takable_bodies i line [] task = refl
+  takable_bodies i line (steps ∷ bodies) task =
+      rw (takable_steps steps.0 (line + 1 + 1) (loop_end line steps), takable_steps steps.1 (loop_end line steps + 1) (body_end line steps))
+      (takable_bodies (i + 1) (body_end line steps + 1) bodies task)
 
 -- the ISR takes no resource
 no_resources : (i line : ℕ) (bodies : List Steps) (task : ℕ) → flat_map (λ (body : Body). isr_resources_by body.kind body.statements) (bodies_from i line bodies task) ≡ []
@@ -167,7 +189,7 @@ module _ (nons : List Bool) (bodies : List Steps) (task_named : ℕ) (few : leng
   code = the_code bodies task_named
 
   abbrev object_of : Object → TaskObject
-  object_of = task (modes (oil_objects nons)) (events (oil_objects nons))
+  object_of = task (modes (oil_objects nons)) (events (oil_objects nons)) (resources (oil_objects nons))
 
   tasks_are : s.tasks ≡ map object_of (tasks_from 0 6 nons)
   tasks_are = ap (map object_of) (tasks_only nons few some)
@@ -184,6 +206,7 @@ module _ (nons : List Bool) (bodies : List Steps) (task_named : ℕ) (few : leng
         (ap (λ (os : List Object). list_any (λ (x : Alarm). bytes_eq (codes "A") x.name) (map (alarm_of_object (names_of (codes "COUNTER") (oil_objects nons)) (names_of (codes "TASK") (oil_objects nons)) (modes (oil_objects nons)) (events (oil_objects nons))) os)) (alarm_only nons few some));
     resource = found (λ (x : Resource). bytes_eq (codes "R") x.name) s.resources refl;
     event = found (λ (x : EventObject). bytes_eq (codes "E") x.name) s.events refl;
+    takable = λ line. ap (λ (o : Option ℕ). internal_at s o line) (at_first (λ (x : Resource). bytes_eq (codes "R") x.name) s.resources refl refl);
   }
 
   all_coded : (list_any (λ (x : TaskObject). lacks_code Task code.bodies x.name) s.tasks || list_any (lacks_code Isr code.bodies) s.isrs) ≡ false
@@ -202,6 +225,7 @@ module _ (nons : List Bool) (bodies : List Steps) (task_named : ℕ) (few : leng
   no_lines C7 = unlocked_bodies 0 1 bodies task_named
   no_lines C8 = ap first_only (drop_of_length-le (block_lines code.bodies) {i = 1024} (omega (arith, blocks_count (length nons) 0 1 bodies task_named are, few, same)))
   no_lines C9 = refl
+  no_lines C10 = takable_bodies s (length nons) knows 0 1 bodies task_named
 
   pub code_has_no_fault : HasNoFault s code
   code_has_no_fault rule line violated = subst (IsIn line) (no_lines rule) violated

@@ -1,14 +1,14 @@
 -- A generated OIL text breaks no rule on objects.
 use Rattle.std.proofs.Common.{◌≡◌, ℕ, ◌+◌, ◌<◌, ◌≤◌, ◌^◌, Bool, true, false, suc, List, [], ◌∷◌, ◌++◌, length, map, codes, decimal, refl, ap, subst, ◌∙◌, arith}
-use Rattle.std.specs.{Prelude.{◌&&◌, nat_le, filter}, List.{list_any, flat_map, AllByRecursion}, Str.{bytes_eq}}
-use Rattle.std.proofs.lemmas.{Bool.{and_from, or_from, or_left, le-leb, ne_eqb, false_from_ne_true}, Fmt.{decimal_digit}, List.Folds.{list_any-append}, Option.{slice_get_past}}
+use Rattle.std.specs.{Prelude.{◌&&◌, not, nat_le, find, filter}, List.{list_any, flat_map, AllByRecursion}, Str.{bytes_eq}}
+use Rattle.std.proofs.lemmas.{Bool.{and_from, or_from, or_left, le-leb, false_from_ne_true}, Fmt.{decimal_digit}, List.Folds.{list_any-append}, Option.{slice_get_past}}
 use Rattle.std.proofs.lemmas.Slice.Eq.{bytes_eq-Decides}
-use Rattle.osek_values.specs.{Lines.{IsIn}, declared.refusal.OilRule.{OilRule, TheVariants.{O1, O2, O3, O4, O5, O6, O7, O8, O9, O10, O11, O12, O13, O14, O15}}}
+use Rattle.osek_values.specs.{Lines.{IsIn}, declared.refusal.OilRule.{OilRule, TheVariants.{O1, O2, O3, O4, O5, O6, O7, O9, O10, O11, O12, O13, O14, O15, O16, O17}}}
 use Rattle.oil_lexer.specs.Numbers.{value_of}
-use Rattle.oil_tree.specs.declared.tree.Object.{Object}
-use Rattle.oil_model.specs.{declared.objects.Category.TheVariants.{Two}, Faults.{HasNoFault}, Lists.{found_of}}
-use Rattle.oil_model.specs.Objects.{is_kind, objects_of, is_called, declares, line_at, object_line, has_scheduler, is_other_mode, is_ordinary, is_isr, explicit_bits, free_from}
-use Rattle.oil_model.specs.Rules.{repeated, is_unknown, has_same_name, kinds, repeated_names, all_repeated_names, os_lines, missing_in, doubles_in, wrong_in, dangling_in, has_same_priority, is_activated_often, is_special_resource, is_callback, empty_masks_from, found_line, first_beyond, beyond_limits, is_reversed, late_times_of, is_other_category, takes_resource, lines}
+use Rattle.oil_tree.specs.{declared.tree.{Attr.{Attr}, Object.{Object}}, AttrLists.{attr_list}}
+use Rattle.oil_model.specs.{declared.objects.Category.TheVariants.{Two}, Faults.{HasNoFault}, Lists.{found_of}, LookUp.{is_named, word_of, word_at, attr_line}}
+use Rattle.oil_model.specs.Objects.{is_kind, objects_of, is_called, declares, line_at, object_line, has_scheduler, is_other_mode, is_ordinary, is_isr, is_internal, explicit_bits, free_from}
+use Rattle.oil_model.specs.Rules.{repeated, is_unknown, has_same_name, kinds, repeated_names, all_repeated_names, os_lines, missing_in, doubles_in, wrong_in, dangling_in, is_wrongly_activated, is_linked, is_callback, empty_masks_from, found_line, first_beyond, beyond_limits, is_reversed, late_times_of, is_other_category, takes_resource, second_internals_of, is_internal_scheduler, lines}
 use Rattle.generated_texts.proofs.TaskNames.{task_name, task_name_injective, decimal_value}
 use Rattle.generated_texts.proofs.OilSentence.{task_with, task_object, tasks_from, line_behind, bare_object, counter_object, alarm_object, isr_object, foot_objects, oil_objects, oil_tree}
 
@@ -46,10 +46,6 @@ names_apart i j h k other = false_from_ne_true (bytes_eq (task_name i) (task_nam
 other_name : (i j line l : ℕ) (non n : Bool) → i < j → j < 16 → has_same_name (task_object j l n) (task_object i line non) ≡ false
 other_name i j line l non n lt few = names_apart i j (omega (arith, lt, few)) (omega (arith, few)) (λ e. omega (arith, lt, e))
 
-other_priority : (i j line l : ℕ) (non n : Bool) → i < j → j < 16 → has_same_priority (task_object j l n) (task_object i line non) ≡ false
-other_priority i j line l non n lt few =
-    rw (decimal_value i (omega (arith, lt, few)), decimal_value j (omega (arith, few))) (ne_eqb i j (λ e. omega (arith, lt, e)))
-
 pub tasks_count : (i line : ℕ) (nons : List Bool) → length (tasks_from i line nons) ≡ length nons
 tasks_count i line [] = refl
 tasks_count i line (non ∷ nons) = ap suc (tasks_count (i + 1) (line + 1) nons)
@@ -76,6 +72,14 @@ each_nothing f (x ∷ xs) none = λ i. none.0 i ++ each_nothing f xs none.1 i
 masks_right : empty_masks_from (explicit_bits 0 (bare_object (codes "EVENT") (codes "E") 3 ∷ [])) (bare_object (codes "EVENT") (codes "E") 3 ∷ []) ≡ []
 unfolding free_from
 masks_right = refl
+
+-- the lines on which an object names one of these resources beside another
+abbrev names_one : List Object → Attr → Bool
+names_one internals a = is_named (codes "RESOURCE") a && list_any (is_called (word_of a.value)) internals
+
+abbrev further_names : List Object → Object → List ℕ
+further_names internals o =
+    map attr_line (filter (λ (a : Attr). names_one internals a && not (bytes_eq (word_of a.value) (word_at (find (names_one internals) (attr_list o.attrs))))) (attr_list o.attrs))
 
 module _ (nons : List Bool) (few : length nons ≤ 16) (some : 0 < length nons) where
   few_from : 0 + length nons ≤ 16
@@ -154,6 +158,17 @@ module _ (nons : List Bool) (few : length nons ≤ 16) (some : 0 < length nons) 
   foot_declared : flat_map (found_of (dangling_in objects)) foot ≡ []
   foot_declared = rw first_declared refl
 
+  -- no resource is INTERNAL
+  internals_none : filter is_internal objects ≡ []
+  internals_none = past_tasks is_internal (λ _ _ _. refl) 0 6 nons foot
+
+  none_of_task : (i line : ℕ) (non : Bool) → second_internals_of objects (task_object i line non) ≡ []
+  none_of_task i line non = ap (λ (os : List Object). further_names os (task_object i line non)) internals_none
+
+  none_of_tasks : (i line : ℕ) (ns : List Bool) → flat_map (second_internals_of objects) (tasks_from i line ns) ≡ []
+  none_of_tasks i line [] = refl
+  none_of_tasks i line (non ∷ ns) = λ k. none_of_task i line non k ++ none_of_tasks (i + 1) (line + 1) ns k
+
   -- limits
   within : beyond_limits objects ≡ []
   within =
@@ -168,16 +183,16 @@ module _ (nons : List Bool) (few : length nons ≤ 16) (some : 0 < length nons) 
   no_lines O5 = nothing_of_tasks (found_of doubles_in) (λ _ _ _ _. refl) 0 6 nons foot few_from
   no_lines O6 = nothing_of_tasks (found_of wrong_in) (λ i line non h. wrong_task (task_name i) (value_of 10 (decimal i)) line non (omega (arith, decimal_value i (omega (arith, h)), h))) 0 6 nons foot few_from
   no_lines O7 = nothing_of_tasks (found_of (dangling_in objects)) (λ _ _ _ _. refl) 0 6 nons foot few_from ∙ foot_declared
-  no_lines O8 = ap (λ (os : List Object). map (line_at (codes "PRIORITY")) (repeated has_same_priority [] os)) tasks_only
-      ∙ ap (map (line_at (codes "PRIORITY"))) (none_repeated has_same_priority other_priority 0 6 nons [] few_from (λ _ _ _ _ _. refl))
-  no_lines O9 = ap (λ (os : List Object). map (line_at (codes "ACTIVATION")) (filter is_activated_often os)) tasks_only
-      ∙ ap (map (line_at (codes "ACTIVATION"))) (no_tasks is_activated_often (λ _ _ _. refl) 0 6 nons)
-  no_lines O10 = ap (λ (os : List Object). map (line_at (codes "RESOURCEPROPERTY")) (filter is_special_resource os)) resource_only
+  no_lines O9 = ap (λ (os : List Object). map (line_at (codes "ACTIVATION")) (filter is_wrongly_activated os)) tasks_only
+      ∙ ap (map (line_at (codes "ACTIVATION"))) (no_tasks is_wrongly_activated (λ _ _ _. refl) 0 6 nons)
+  no_lines O10 = ap (λ (os : List Object). map (line_at (codes "RESOURCEPROPERTY")) (filter is_linked os)) resource_only
   no_lines O11 = ap (λ (os : List Object). map (line_at (codes "ACTION")) (filter is_callback os)) alarm_only
   no_lines O12 = ap (λ (es : List Object). empty_masks_from (explicit_bits 0 es) es) event_only ∙ masks_right
   no_lines O13 = within
   no_lines O14 = λ i. map (line_at (codes "MINCYCLE")) (filter is_reversed (counter_only i)) ++ flat_map (late_times_of objects) (alarm_only i)
   no_lines O15 = λ i. map (line_at (codes "CATEGORY")) (filter is_other_category (isr_only i)) ++ map (line_at (codes "RESOURCE")) (filter takes_resource (isr_only i))
+  no_lines O16 = ap (λ (os : List Object). flat_map (second_internals_of objects) os) tasks_only ∙ none_of_tasks 0 6 nons
+  no_lines O17 = ap (λ (os : List Object). map (line_at (codes "RESOURCEPROPERTY")) (filter is_internal_scheduler os)) resource_only
 
   pub oil_has_no_fault : HasNoFault (oil_tree nons)
   oil_has_no_fault rule line violated = subst (IsIn line) (no_lines rule) violated

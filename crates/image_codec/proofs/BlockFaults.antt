@@ -14,13 +14,13 @@ use Rattle.image_model.specs.declared.site.Known.TheVariants as known
 use Rattle.image_model.specs.declared.image.Version.{Version}
 use Rattle.image_model.specs.declared.image.Version.TheVariants as version
 use Rattle.osek_standard.specs.Apps.{is_routine_end, call_may_dispatch, may_dispatch, is_task_block_in, is_site_in}
-use Rattle.image_codec.specs.declared.{fault.{ImageRule.TheVariants.{I3, I5, I6}, Fault.{Fault}}, parts.{Header.{Header}, Tables.{Tables}, Parts.{Parts}}}
+use Rattle.image_codec.specs.declared.{fault.{ImageRule.TheVariants.{I3, I6}, Fault.{Fault}}, parts.{Header.{Header}, Tables.{Tables}, Parts.{Parts}}}
 use Rattle.image_codec.specs.{Laws.{BlocksFaults, ImageFaults}, ImageReading.{placed, read_image}, TableReading.{tables_at}}
 use Rattle.image_codec.specs.Reading.{Read, ◌>>=◌, kept, found_at, number_at, tested_at, byte_below_at, flag_at, entries_at}
-use Rattle.image_codec.specs.BlockReading.{blank_kinds, is_allowed, is_due, is_way, judged_at, kind_at, task_no_at, resource_no_at, alarm_no_at, events_at, locks, lock_of, lock_at, due_at, operands_at, way_at, ways_at, form_of, form_at, knowns, known_of, known_at, stated_at, site_at, block_at, blocks_at, parts_at, all_at}
+use Rattle.image_codec.specs.BlockReading.{blank_kinds, is_allowed, is_takable, is_due, is_way, judged_at, kind_at, task_no_at, takable_at, alarm_no_at, events_at, locks, lock_of, lock_at, due_at, operands_at, way_at, ways_at, form_of, form_at, knowns, known_of, known_at, stated_at, site_at, block_at, blocks_at, parts_at, all_at}
 use Rattle.image_codec.specs.FieldTable.{fault_of, Field, field, any, some, below, or_later, first_broken, behind, kind_of_number, is_form, kind_field, task_field, resource_field, alarm_field, events_field, ticks_field, way_field, call_fields, way_fields, further_field, is_known, site_fields, block_fields, or_else, blocks_fault}
 use Rattle.image_codec.proofs.{BlockLaws.{Entry, blank_call, blank_of}, BlockLoop.{read_block}}
-use Rattle.image_codec.proofs.FieldFaults.{CoversAt, Covers, Any, Numbered, covers_then, covers_made, rule_of, kept_cross, number, number_covers, tested_covers, crossed_covers, long, tested_byte_is, byte_covers, Found, found_in}
+use Rattle.image_codec.proofs.FieldFaults.{CoversAt, Covers, Any, Numbered, covers_then, covers_made, rule_of, kept_cross, number, number_covers, tested_covers, crossed_covers, crossed_byte_covers, long, byte_covers, Found, found_in}
 
 -- ---- forms
 
@@ -165,8 +165,9 @@ module _ (t : Tables) (blocks b : ℕ) (v : Version) where
   task_covers : (bytes : List ℕ) → Covers (Numbered w8 bytes) (task_field t blocks b ∷ []) bytes (task_no_at t b bytes)
   task_covers bytes = byte_covers (below (length t.tasks)) bytes
 
-  resource_covers : (bytes : List ℕ) → Covers (Numbered w8 bytes) (resource_field t blocks b ∷ []) bytes (resource_no_at t b bytes)
-  resource_covers bytes = byte_covers (below (length t.resources)) bytes
+  takable_covers : (bytes : List ℕ) → Covers (Numbered w8 bytes) (resource_field t blocks b ∷ []) bytes (takable_at t bytes)
+  unfolding takable_at
+  takable_covers bytes = crossed_byte_covers (below (length t.resources)) (is_takable t) bytes
 
   alarm_covers : (bytes : List ℕ) → Covers (Numbered w8 bytes) (alarm_field t blocks b ∷ []) bytes (alarm_no_at t b bytes)
   alarm_covers bytes = byte_covers (below (length t.alarms)) bytes
@@ -176,9 +177,7 @@ module _ (t : Tables) (blocks b : ℕ) (v : Version) where
 
   due_covers : (bytes : List ℕ) → Covers (Numbered w8 bytes) (field w8 (below (length t.alarms)) (is_due t b) ∷ []) bytes (due_at t b bytes)
   unfolding due_at
-  due_covers bytes =
-      subst (λ (r : Read ℕ). Covers (Numbered w8 bytes) (field w8 (below (length t.alarms)) (is_due t b) ∷ []) bytes (r >>= λ a. kept (is_due t b a.0) I5 bytes a)) (sym (tested_byte_is (below (length t.alarms)) bytes))
-      (crossed_covers w8 bytes (below (length t.alarms)) (is_due t b))
+  due_covers bytes = crossed_byte_covers (below (length t.alarms)) (is_due t b) bytes
 
   way_covers : (bytes : List ℕ) → Covers (Numbered w16 bytes) (way_field t blocks b ∷ []) bytes (way_at t blocks b bytes)
   unfolding way_at
@@ -193,7 +192,7 @@ module _ (t : Tables) (blocks b : ℕ) (v : Version) where
   operands_cover (kind.Call (call.Task k x)) bytes =
       made (kind.Call (call.Task k x)) (task_field t blocks b) w8 bytes (task_no_at t b bytes) (λ n. kind.Call (call.Task k (task_no n))) (λ n. refl) (task_covers bytes)
   operands_cover (kind.Call (call.Resource k r)) bytes =
-      made (kind.Call (call.Resource k r)) (resource_field t blocks b) w8 bytes (resource_no_at t b bytes) (λ n. kind.Call (call.Resource k (res_no n))) (λ n. refl) (resource_covers bytes)
+      made (kind.Call (call.Resource k r)) (resource_field t blocks b) w8 bytes (takable_at t bytes) (λ n. kind.Call (call.Resource k (res_no n))) (λ n. refl) (takable_covers bytes)
   operands_cover (kind.Call (call.SetEvent x m)) bytes =
       covers_then (Numbered w8 bytes) (Fills (kind.Call (call.SetEvent x m))) (task_field t blocks b ∷ []) (events_field t blocks b ∷ []) bytes (task_no_at t b bytes)
       (λ n rest. events_at rest >>= λ e. Ok (kind.Call (call.SetEvent (task_no n) (mask e.0)), e.1)) (task_covers bytes)

@@ -14,10 +14,10 @@ use Rattle.image_codec.specs.declared.parts.Tables.{Tables}
 use Rattle.osek_standard.specs.Apps.{is_site_in}
 use Rattle.image_codec.specs.Spelling.{one, two, four, eight, kind_number, lock_number, operand_bytes, way_bytes, site_bytes, flag_number, block_bytes}
 use Rattle.image_codec.specs.Reading.{AreBytes, Read, ◌>>=◌, number_at, tested_at, flag_at}
-use Rattle.image_codec.specs.BlockReading.{blank_kinds, is_way, kind_at, task_no_at, resource_no_at, alarm_no_at, events_at, lock_at, due_at, operands_at, way_at, ways_at, site_at, block_at}
+use Rattle.image_codec.specs.BlockReading.{blank_kinds, is_way, kind_at, task_no_at, takable_at, alarm_no_at, events_at, lock_at, due_at, operands_at, way_at, ways_at, site_at, block_at}
 use Rattle.image_codec.proofs.Spells.{ok_is, done_with, Takes, Spells, nothing_more, and_then, said, wide16, wide32, number_law, Tested, tested_law, tested_number_law, joined6}
 use Rattle.image_codec.proofs.FieldLaws.{flag_law}
-use Rattle.image_codec.proofs.KindLaws.{GoodBlank, kind_law, other_of, GoodOperands, GoodFilled, operands_take, task_no_law, resource_no_law, alarm_no_law, events_law, due_law, lock_law, ticks_law, set_event_law, made_of}
+use Rattle.image_codec.proofs.KindLaws.{GoodBlank, kind_law, other_of, GoodOperands, GoodFilled, operands_take, task_no_law, takable_law, alarm_no_law, events_law, due_law, lock_law, ticks_law, set_event_law, made_of}
 use Rattle.image_codec.proofs.SiteLaws.{GoodSite, site_law}
 
 -- the kind of a number, with blank operands but for where choice 0 leads
@@ -40,7 +40,7 @@ module _ (tables : Tables) (b : ℕ) where
   operands_again kind.Loop rest good = refl
   operands_again (kind.Call (call.Task k x)) rest good = again_one (task_no_at tables b) one _ (task_no_law tables b) (λ m. (kind.Call (call.Task k (task_no m)))) x.0 rest good
   operands_again (kind.Call (call.Plain k)) rest good = refl
-  operands_again (kind.Call (call.Resource k r)) rest good = again_one (resource_no_at tables b) one _ (resource_no_law tables b) (λ m. (kind.Call (call.Resource k (res_no m)))) r.0 rest good
+  operands_again (kind.Call (call.Resource k r)) rest good = again_one (takable_at tables) one _ (takable_law tables b) (λ m. (kind.Call (call.Resource k (res_no m)))) r.0 rest good
   operands_again (kind.Call (call.SetEvent x m)) rest good = (set_event_law tables b).again (kind.Call (call.SetEvent x m)) rest (good.0, (good.1, refl))
   operands_again (kind.Call (call.Mask k m)) rest good = again_one events_at eight _ (events_law tables b) (λ n. (kind.Call (call.Mask k (mask n)))) m.0 rest good
   operands_again (kind.Call (call.Arm k a i c)) rest good = (ticks_law tables b (λ n j d. (kind.Call (call.Arm k (alarm_no n) j d))) (λ n j d. refl) (λ n j d. refl) (λ n j d. refl)).again (kind.Call (call.Arm k a i c)) rest (good.0, (good.1.0, (good.1.1, refl)))

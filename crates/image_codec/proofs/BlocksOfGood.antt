@@ -1,12 +1,11 @@
 -- What is so of the blocks that were read: each is fit for whoever has it.
 use Rattle.std.proofs.Common.{◌≡◌, ℕ, zero, suc, ◌+◌, ◌-◌, ◌<◌, ◌≤◌, Bool, true, false, ◌&&◌, eqb, leb, ltb, List, [], ◌∷◌, length, get_or, Option, None, refl, sym, ap, subst, ◌∙◌}
 use Rattle.std.proofs.Common.{arith}
-use Rattle.std.proofs.lemmas.{Bool.{and_parts, and_from, eqb-true, eq-eqb, leb-true, ltb-true}, List.{Sums.{AllPass-from_list_all}, Elements.{All-get_or}}}
-use Rattle.std.specs.{Prelude.{slice_index_or, not, IsTrue}, List.{list_all, list_any}}
-use Rattle.oil_system.specs.declared.objects.Resource.{Resource}
+use Rattle.std.proofs.lemmas.{Bool.{and_parts, and_from, eqb-true, eq-eqb, leb-true, ltb-true}, List.Sums.{AllPass-from_list_all}}
+use Rattle.std.specs.{Prelude.{slice_index_or}, List.{list_all, list_any}}
 use Rattle.osek_standard.specs.declared.{objects.{Task.{Task}, Isr.{Isr}, Counter.{Counter}}, block.{Block.{Block}, Kind.{Kind}}}
 use Rattle.osek_standard.specs.Validity.{no_block, IsAmong, is_within, owners, is_own_next, task_may, isr_may, due_of, tick_may, NamesEntries, IsOtherWay, IsOwner, IsTaskCode}
-use Rattle.osek_standard.specs.Validity.{IsIsrCode, IsTickCode, NoneIsInternal, no_resource}
+use Rattle.osek_standard.specs.Validity.{IsIsrCode, IsTickCode}
 use Rattle.osek_standard.specs.declared.block.Kind.TheVariants as kind
 use Rattle.image_model.specs.declared.site.Site.{Site}
 use Rattle.image_model.specs.CallNames as call
@@ -53,24 +52,23 @@ tick_end n place kind.IsrEnd order e = eqb-true place (n + 1) order
 tick_end n place k order e = absurd cc
 
 module _ (p : Parts) (b : ℕ) where
-  names_entries : NoneIsInternal (tables_of_parts p) → (k : Kind) → GoodOperands p.tables b (unwayed k) → NamesEntries (tables_of_parts p) k
-  names_entries takable (kind.Work n) g = ltb-true _ _ g.1
-  names_entries takable (kind.Choice o) g = tt
-  names_entries takable kind.Loop g = tt
-  names_entries takable (kind.Call (call.Task k x)) g = ltb-true _ _ g.1
-  names_entries takable (kind.Call (call.Plain k)) g = tt
-  names_entries takable (kind.Call (call.Resource k r)) g =
-      (ltb-true _ _ g.1, All-get_or (λ (x : Resource). IsTrue (not x.internal)) p.tables.resources r.0 no_resource (ltb-true _ _ g.1) takable)
-  names_entries takable (kind.Call (call.SetEvent x m)) g = (ltb-true _ _ g.0.1, ltb-true _ _ g.1.1)
-  names_entries takable (kind.Call (call.Mask k m)) g = ltb-true _ _ g.1
-  names_entries takable (kind.Call (call.Arm k a i c)) g = ltb-true _ _ g.0.1
-  names_entries takable (kind.Call (call.Alarm k a)) g = ltb-true _ _ g.1
-  names_entries takable (kind.Call (call.Lock l)) g = tt
-  names_entries takable (kind.Call call.ShutdownOs) g = tt
-  names_entries takable kind.TaskEnd g = tt
-  names_entries takable kind.IsrEnd g = tt
-  names_entries takable kind.CountUp g = tt
-  names_entries takable (kind.Expire a) g = ltb-true _ _ g.0.1
+  names_entries : (k : Kind) → GoodOperands p.tables b (unwayed k) → NamesEntries (tables_of_parts p) k
+  names_entries (kind.Work n) g = ltb-true _ _ g.1
+  names_entries (kind.Choice o) g = tt
+  names_entries kind.Loop g = tt
+  names_entries (kind.Call (call.Task k x)) g = ltb-true _ _ g.1
+  names_entries (kind.Call (call.Plain k)) g = tt
+  names_entries (kind.Call (call.Resource k r)) g = (ltb-true _ _ g.0.1, g.1)
+  names_entries (kind.Call (call.SetEvent x m)) g = (ltb-true _ _ g.0.1, ltb-true _ _ g.1.1)
+  names_entries (kind.Call (call.Mask k m)) g = ltb-true _ _ g.1
+  names_entries (kind.Call (call.Arm k a i c)) g = ltb-true _ _ g.0.1
+  names_entries (kind.Call (call.Alarm k a)) g = ltb-true _ _ g.1
+  names_entries (kind.Call (call.Lock l)) g = tt
+  names_entries (kind.Call call.ShutdownOs) g = tt
+  names_entries kind.TaskEnd g = tt
+  names_entries kind.IsrEnd g = tt
+  names_entries kind.CountUp g = tt
+  names_entries (kind.Expire a) g = ltb-true _ _ g.0.1
 
   own_next : (k : Kind) (n : ℕ) → LeadsWell p.tables (length p.blocks) b k n → is_own_next b k n ≡ true
   own_next kind.TaskEnd n leads = eq-eqb n b leads
@@ -102,8 +100,7 @@ module _ (p : Parts) (b : ℕ) where
   tick_may_from due place k dues g order = absurd cc
 
 module _ (p : Parts) (same : length p.blocks ≡ length p.sites)
-    (fact : (b : ℕ) (d : Block) (e : Option Site) → b < length p.blocks → GoodBlock p.tables (length p.blocks) b p.version (get_or p.blocks b d, get_or p.sites b e))
-    (takable : NoneIsInternal (tables_of_parts p)) where
+    (fact : (b : ℕ) (d : Block) (e : Option Site) → b < length p.blocks → GoodBlock p.tables (length p.blocks) b p.version (get_or p.blocks b d, get_or p.sites b e)) where
   abbrev t : Tables
   t = p.tables
 
@@ -145,7 +142,7 @@ module _ (p : Parts) (same : length p.blocks ≡ length p.sites)
         let way : (m : ℕ) → is_end (get_or blocks b none).kind ≡ false → GoodWay t (length blocks) b m → IsAmong m first count =
         λ m e g. ways b a m (ap (λ (x : Block). is_end x.kind) (sym alike) ∙ e) g in
         record {
-          operands = names_entries p b takable (get_or blocks b none).kind f.filled.operands;
+          operands = names_entries p b (get_or blocks b none).kind f.filled.operands;
           next = next_among p b first count a (get_or blocks b none).kind (get_or blocks b none).next.0 way f.leads;
           other = other_among p b first count a (get_or blocks b none).kind (get_or blocks b none).next.0 way f.leads;
         };

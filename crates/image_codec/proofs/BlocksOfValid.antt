@@ -3,7 +3,7 @@ use Rattle.std.proofs.Common.{◌≡◌, ℕ, suc, ◌+◌, ◌-◌, ◌^◌, �
 use Rattle.std.specs.{Prelude.{slice_index_or, slice_get, IsTrue, ⊤}, List.{list_any}}
 use Rattle.std.proofs.lemmas.{Bool.{and_parts, and_from, or_cases, eqb-true, eq-eqb, ne_eqb, le-leb, ltb-true, lt-ltb, not-true, cases_lt}, List.{get_or_past}}
 use Rattle.std.proofs.lemmas.List.Sums.{list_all-from_AllPass}
-use Rattle.osek_standard.specs.declared.{objects.{Task.{Task}, Isr.{Isr}, Counter.{Counter}}, block.{Block.{Block}, Kind.{Kind}}}
+use Rattle.osek_standard.specs.declared.{app.App.{App}, objects.{Task.{Task}, Isr.{Isr}, Counter.{Counter}}, block.{Block.{Block}, Kind.{Kind}}}
 use Rattle.osek_standard.specs.declared.block.Kind.TheVariants as kind
 use Rattle.image_model.specs.CallNames as call
 use Rattle.osek_standard.specs.Validity.{no_block, no_counter, no_task, no_isr, IsAmong, is_within, is_own_next, due_of, tick_may, NamesEntries, IsOtherWay, IsBlock, IsOwner, IsTickCode, IsValid}
@@ -99,7 +99,7 @@ module _ (p : Parts) (b : ℕ) (few_tasks : length p.tables.tasks ≤ 16) (few_a
   good_operands kind.Loop names fits due = tt
   good_operands (kind.Call (call.Task k x)) names fits due = good_no _ x.0 few_tasks names
   good_operands (kind.Call (call.Plain k)) names fits due = tt
-  good_operands (kind.Call (call.Resource k r)) names fits due = good_no _ r.0 few_resources names.0
+  good_operands (kind.Call (call.Resource k r)) names fits due = (good_no _ r.0 few_resources names.0, names.1)
   good_operands (kind.Call (call.SetEvent x m)) names fits due = (good_no _ x.0 few_tasks names.0, (fits, lt-ltb 0 m.0 names.1))
   good_operands (kind.Call (call.Mask k m)) names fits due = (fits, lt-ltb 0 m.0 names)
   good_operands (kind.Call (call.Arm k a i c)) names fits due = (good_no _ a.0 few_alarms names, fits)
@@ -337,6 +337,6 @@ pub good_site : (v : Version) (tasks : ℕ) (is : Bool) (x : Option Site) → ta
 good_site v tasks is None few fits says = not-true is fits
 good_site v tasks is (Some x) few fits says = (fits.0, ((form_again tasks x.form few fits.1, form_small tasks x.form few fits.1), good_known v x says))
 
-pub says_its_own : (v : Version) (sites : List (Option Site)) (b : ℕ) → b < length sites → FitsAlone v sites → SaysItsOwn v (get_or sites b None)
-says_its_own version.One sites b lt alone = alone.unknown b None lt
-says_its_own version.Two sites b lt alone = tt
+pub says_its_own : (v : Version) (app : App) (sites : List (Option Site)) (b : ℕ) → b < length sites → FitsAlone v app sites → SaysItsOwn v (get_or sites b None)
+says_its_own version.One app sites b lt alone = alone.unknown b None lt
+says_its_own version.Two app sites b lt alone = tt

@@ -3,7 +3,7 @@ use Rattle.std.proofs.Common.{◌≡◌, ℕ, ◌-◌, List, length, map, Option
 use Rattle.std.specs.List.{zip}
 use Rattle.std.proofs.Props.{props}
 use Rattle.osek_standard.specs.{declared.{app.App.{App}, block.Block.{Block}}, Validity.{IsValid, IsValid-prop}}
-use Rattle.image_model.specs.Versions.{FitsBothVersions, FitsBothVersions-prop, FitsAlone, FitsAlone-prop}
+use Rattle.image_model.specs.Versions.{FitsAlone, FitsAlone-prop}
 use Rattle.image_codec.specs.declared.fault.{Fault.{Fault}, ImageFault.{ImageFault}}
 use Rattle.image_model.specs.declared.{site.Site.{Site}, image.Image.{Image}}
 use Rattle.image_codec.specs.declared.parts.{Header.{Header}, Tables.{Tables}, Parts.{Parts}}
@@ -62,15 +62,14 @@ app_of p v = record {
 
 -- what an image of these parts keeps besides
 pub record Keeps (p : Parts) (app : App) : Type 0 where
-  pub both_versions : FitsBothVersions app
-  pub its_version : FitsAlone p.version p.sites
+  pub its_version : FitsAlone p.version app p.sites
   pub sites : AreSites app p.sites
 
 abbrev pub image_of : (p : Parts) (v : IsValidOf p) → Keeps p (app_of p v) → Image
-image_of p v k = record { version = p.version; app = app_of p v; sites = p.sites; both_versions = k.both_versions; its_version = k.its_version; valid = k.sites }
+image_of p v k = record { version = p.version; app = app_of p v; sites = p.sites; its_version = k.its_version; valid = k.sites }
 
 Keeps-prop : (p : Parts) (app : App) → IsProp (Keeps p app)
-Keeps-prop p app = hlevel (props, FitsBothVersions-prop, FitsAlone-prop, AreSites-prop)
+Keeps-prop p app = hlevel (props, FitsAlone-prop, AreSites-prop)
 
 module _ (p : Parts) (v : IsValidOf p) (k : Keeps p (app_of p v)) where
   same_facts : (v' : IsValidOf p) (k' : Keeps p (app_of p v')) → image_of p v k ≡ image_of p v' k'
@@ -82,7 +81,7 @@ module _ (p : Parts) (v : IsValidOf p) (k : Keeps p (app_of p v)) where
   same_image q e = subst (λ (r : Parts). (v' : IsValidOf r) (k' : Keeps r (app_of r v')) → image_of p v k ≡ image_of r v' k') e same_facts
 
 abbrev kept_by : (i : Image) → Keeps (parts_of i) i.app
-kept_by i = record { both_versions = i.both_versions; its_version = i.its_version; sites = i.valid }
+kept_by i = record { its_version = i.its_version; sites = i.valid }
 
 pub image_ext : (i j : Image) → parts_of i ≡ parts_of j → i ≡ j
 image_ext i j e = same_image (parts_of i) i.app.valid (kept_by i) (parts_of j) e j.app.valid (kept_by j)

@@ -72,6 +72,11 @@ module _ {X : Type 0} (Good : List X → X → Type 0) where
   pub each_of : (xs : List X) → ((e : List X) (x : X) (l : List X) → e ++ x ∷ l ≡ xs → Good e x) → Each Good [] xs
   each_of xs gives = each_of_from xs gives [] xs refl
 
+-- what follows of each entry beside the earlier ones
+pub each_weaker : {X : Type 0} (Good Good' : List X → X → Type 0) → ((e : List X) (x : X) → Good e x → Good' e x) → (earlier xs : List X) → Each Good earlier xs → Each Good' earlier xs
+each_weaker Good Good' f earlier [] good = tt
+each_weaker Good Good' f earlier (x ∷ xs) good = (f earlier x good.0, each_weaker Good Good' f (earlier ++ x ∷ []) xs good.1)
+
 pub map_all : {X Y : Type 0} (P : Y → Type 0) (f : X → Y) (xs : List X) → All (λ x. P (f x)) xs → All P (map f xs)
 map_all P f xs all = All-map P f xs all
 

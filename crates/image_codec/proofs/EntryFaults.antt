@@ -1,20 +1,21 @@
 -- The first fault of the header, and of an entry of a table, is what the table of fields says.
-use Rattle.std.proofs.Common.{◌≡◌, ℕ, ◌+◌, ◌^◌, Bool, ◌&&◌, List, [], ◌∷◌, ◌++◌, map, Ok, subst}
-use Rattle.std.specs.{Prelude.{nat_eq, slice_index_or}, Int.{Width, w8, w16, w32, w64}}
+use Rattle.std.proofs.Common.{◌≡◌, ℕ, ◌+◌, ◌^◌, Bool, ◌&&◌, List, [], ◌∷◌, ◌++◌, length, map, Ok, subst}
+use Rattle.std.specs.{Prelude.{slice_index_or}, Int.{Width, w8, w16, w32, w64}}
 use Rattle.osek_values.specs.{declared.limits.TheConstants.{MAX_TASKS, MAX_ISRS, MAX_COUNTERS, MAX_ALARMS, MAX_RESOURCES, MAX_MODES, MAX_BLOCKS}, Hooks.{hook_set}}
 use Rattle.osek_values.specs.Numbers.{counter_no}
-use Rattle.oil_system.specs.{declared.objects.{Alarm.{Alarm}, Resource.{Resource}, Action.{Action}}, Objects.{greatest_ceiling}}
+use Rattle.oil_system.specs.{declared.objects.{Alarm.{Alarm}, Resource.{Resource}, Action.{Action}, Schedule.{Schedule}}, Objects.{greatest_ceiling}}
 use Rattle.osek_standard.specs.{declared.objects.{Task.{Task}, Isr.{Isr}, Counter.{Counter}}, Validity.{no_counter, owners}}
 use Rattle.image_model.specs.declared.image.Version.{Version}
+use Rattle.image_model.specs.declared.image.Version.TheVariants as version
 use Rattle.image_codec.specs.{declared.{fault.ImageRule.TheVariants.{I3, I5}, parts.{Header.{Header}, Range.{Range}}}, Laws.{HeaderFaults, EntryFaults}}
-use Rattle.image_codec.specs.Reading.{Read, ◌>>=◌, unused_byte_at, unused_16_at, name_at, number_at, tested_byte_at, tested_at, byte_below_at, modes_at, range_at}
-use Rattle.image_codec.specs.TableReading.{version_at, header_at, schedule_of, schedule_at, task_at, isr_at, counter_at, is_action_mask, action_of, action_at, is_start_time}
+use Rattle.image_codec.specs.Reading.{Read, ◌>>=◌, further_byte_at, unused_byte_at, unused_16_at, name_at, number_at, tested_byte_at, tested_at, byte_below_at, modes_at, range_at}
+use Rattle.image_codec.specs.TableReading.{version_at, header_at, is_priority, is_activation, is_internal_number, property_at, schedule_of, schedule_at, task_at, isr_at, counter_at, is_action_mask, action_of, action_at, is_start_time}
 use Rattle.image_codec.specs.TableReading.{is_start_cycle, alarm_at, resource_at, task_with, isr_with, resource_with}
-use Rattle.image_codec.specs.FieldTable.{fault_of, Field, field, any, some, below, at_most, none_of, first_broken, behind, magic_field, further_field, unused_field, name_field}
-use Rattle.image_codec.specs.FieldTable.{header_fields, range_fields, modes_field, task_head, task_fields, isr_head, isr_fields, counter_fields, action_fields, start_fields}
+use Rattle.image_codec.specs.FieldTable.{fault_of, Field, field, any, some, below, at_most, first_broken, behind, magic_field, further_field, unused_field, name_field}
+use Rattle.image_codec.specs.FieldTable.{header_fields, range_fields, modes_field, priority_field, activation_field, internal_field, property_field, task_start, task_fields, isr_head, isr_fields, counter_fields, action_fields, start_fields}
 use Rattle.image_codec.specs.FieldTable.{alarm_fields, resource_fields}
 use Rattle.image_codec.proofs.FieldFaults.{Covers, Any, Numbered, covers_then, covers_made, number_covers, tested_covers, cross_covers, byte_covers, magic_covers}
-use Rattle.image_codec.proofs.FieldFaults.{unused_byte_covers, unused_16_covers, name_covers, range_covers, fault_covered}
+use Rattle.image_codec.proofs.FieldFaults.{further_byte_covers, property_covers, unused_byte_covers, unused_16_covers, name_covers, range_covers, fault_covered}
 
 -- what is read follows the fields, and the value is so
 record Follows {A : Type 0} (P : A → Type 0) (fs : List Field) (bytes : List ℕ) (read : Read A) : Type 0 where
@@ -48,6 +49,16 @@ a_name earlier bytes = record { covers = name_covers earlier bytes }
 
 a_code : (blocks : ℕ) (earlier : List (ℕ × ℕ)) (bytes : List ℕ) → Follows Any (range_fields blocks earlier bytes) bytes (range_at blocks earlier bytes)
 a_code blocks earlier bytes = record { covers = range_covers blocks earlier bytes }
+
+a_priority : (v : Version) (earlier : List Task) (bytes : List ℕ) → Follows (Numbered w16 bytes) (priority_field v earlier ∷ []) bytes (tested_at w16 (is_priority v earlier) I5 bytes)
+a_priority version.One earlier bytes = a_cross w16 (is_priority version.One earlier) bytes
+a_priority version.Two earlier bytes = a_cross w16 (is_priority version.Two earlier) bytes
+
+a_further_byte : (v : Version) (value : ℕ) (test : ℕ → Bool) (bytes : List ℕ) → Follows Any (further_field v (field w8 test any)) bytes (further_byte_at v value test bytes)
+a_further_byte v value test bytes = record { covers = further_byte_covers v value test bytes }
+
+a_property : (v : Version) (tasks : List Task) (r : ℕ) (bytes : List ℕ) → Follows Any (further_field v (property_field tasks r)) bytes (property_at v tasks r bytes)
+a_property v tasks r bytes = record { covers = property_covers v tasks r bytes }
 
 an_unused_byte : (v : Version) (value : ℕ) (bytes : List ℕ) → Follows Any (further_field v (unused_field w8 value)) bytes (unused_byte_at v value bytes)
 an_unused_byte v value bytes = record { covers = unused_byte_covers v value bytes }
@@ -95,17 +106,37 @@ schedule_covers : (bytes : List ℕ) → Follows Any (field w8 (below 2) any ∷
 unfolding schedule_at
 schedule_covers bytes = made schedule_of (a_byte (below 2) bytes)
 
-task_covers : (n : Header) (earlier : List Task) (bytes : List ℕ) → Follows Any (task_fields n earlier bytes) bytes (task_at n earlier bytes)
-unfolding task_at
-task_covers n earlier bytes =
-    next _ (a_name (map (λ (x : Task). x.name) earlier) bytes) (λ name _.
-    next _ (a_cross w16 (λ p. none_of (λ (x : Task). nat_eq x.priority p) earlier) _) (λ priority _.
-    next _ (schedule_covers _) (λ schedule _.
-    next _ (a_number w64 _) (λ own _.
-    next _ (a_byte (below (2 ^ n.modes)) _) (λ autostart _.
-    rest_of _ (a_code n.blocks (owners earlier [] []) (behind (task_head n earlier) bytes)) (λ code.
-    rest_of _ (an_unused_byte n.version 1 _) (λ activation.
-    done_by (task_with name priority schedule own autostart code) (an_unused_byte n.version 0xff _))))))))
+module _ (n : Header) (earlier : List Task) where
+  -- the fields behind a task's own event bits
+  abbrev own_fields : ℕ → List ℕ → List Field
+  own_fields own rest =
+      modes_field n.modes ∷ (range_fields n.blocks (owners earlier [] []) (behind (modes_field n.modes ∷ []) rest)
+      ++ (further_field n.version (activation_field own) ++ further_field n.version (internal_field n.resources)))
+
+  abbrev with_own : List ℕ → ℕ → Schedule → ℕ → List ℕ → Read Task
+  with_own name priority schedule own rest =
+      modes_at n.modes rest >>= λ autostart. range_at n.blocks (owners earlier [] []) autostart.1 >>= λ code.
+      further_byte_at n.version 1 (is_activation own) code.1 >>= λ activation.
+      further_byte_at n.version 0xff (is_internal_number n.resources) activation.1 >>= λ internal.
+      Ok (task_with name priority schedule own autostart.0 code.0 activation.0 internal.0, internal.1)
+
+  own_rest : (name : List ℕ) (priority : ℕ) (schedule : Schedule) (own : ℕ) (rest : List ℕ) → Follows Any (own_fields own rest) rest (with_own name priority schedule own rest)
+  own_rest name priority schedule own rest =
+      next _ (a_byte (below (2 ^ n.modes)) rest) (λ autostart _.
+      rest_of _ (a_code n.blocks (owners earlier [] []) (behind (modes_field n.modes ∷ []) rest)) (λ code.
+      rest_of _ (a_further_byte n.version 1 (is_activation own) _) (λ activation.
+      made (task_with name priority schedule own autostart code activation) (a_further_byte n.version 0xff (is_internal_number n.resources) _))))
+
+  task_covers : (bytes : List ℕ) → Follows Any (task_fields n earlier bytes) bytes (task_at n earlier bytes)
+  unfolding task_at
+  task_covers bytes =
+      next _ (a_name (map (λ (x : Task). x.name) earlier) bytes) (λ name _.
+      next _ (a_priority n.version earlier _) (λ priority _.
+      next _ (schedule_covers _) (λ schedule _.
+      let behind_schedule = behind (task_start n earlier) bytes in
+      next (λ x. with_own name priority schedule x.0 x.1) (a_number w64 behind_schedule) (λ own is.
+      let rest = behind (field w64 any any ∷ []) behind_schedule in
+      subst (λ (z : ℕ). Follows Any (own_fields z rest) rest (with_own name priority schedule own rest)) is (own_rest name priority schedule own rest)))))
 
 isr_covers : (n : Header) (tasks : List Task) (earlier : List Isr) (bytes : List ℕ) → Follows Any (isr_fields n tasks earlier bytes) bytes (isr_at n tasks earlier bytes)
 unfolding isr_at
@@ -208,13 +239,13 @@ module _ (n : Header) (counters : List Counter) (earlier : List Alarm) where
 
 -- ---- resources
 
-resource_covers : (v : Version) (earlier : List Resource) (bytes : List ℕ) → Follows Any (resource_fields v earlier) bytes (resource_at v earlier bytes)
+resource_covers : (v : Version) (tasks : List Task) (earlier : List Resource) (bytes : List ℕ) → Follows Any (resource_fields v tasks earlier) bytes (resource_at v tasks earlier bytes)
 unfolding resource_at
-resource_covers v earlier bytes =
+resource_covers v tasks earlier bytes =
     next _ (a_name (map (λ (x : Resource). x.name) earlier) bytes) (λ name _.
     next _ (a_tested w32 (at_most greatest_ceiling) _) (λ ceiling _.
-    rest_of _ (an_unused_byte v 0 _) (λ property.
-    done_by (resource_with name ceiling) (an_unused_16 v 0 _))))
+    rest_of _ (a_property v tasks (length earlier) _) (λ internal.
+    done_by (resource_with name ceiling internal) (an_unused_16 v 0 _))))
 
 pub entry_faults : EntryFaults
 entry_faults = record {
@@ -222,6 +253,6 @@ entry_faults = record {
   isr = λ n tasks earlier bytes. covered (isr_covers n tasks earlier bytes);
   counter = λ n tasks isrs earlier bytes. covered (counter_covers n tasks isrs earlier bytes);
   alarm = λ n counters earlier bytes. covered (alarm_covers n counters earlier bytes);
-  resource = λ v earlier bytes. covered (resource_covers v earlier bytes);
+  resource = λ v tasks earlier bytes. covered (resource_covers v tasks earlier bytes);
   mode = λ earlier bytes. covered (a_name earlier bytes);
 }

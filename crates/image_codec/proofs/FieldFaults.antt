@@ -3,13 +3,13 @@ use Rattle.std.proofs.Common.{◌≡◌, ℕ, suc, ◌+◌, Bool, true, false, c
 use Rattle.std.specs.{Prelude.{⊤, nat_lt, ◌==◌, slice_get}, Int.{Width, w8, w16, byte_len, from_be_bytes}, Str.{bytes_eq}}
 use Rattle.std.proofs.lemmas.{Bool.{cases_lt, lt-ltb, le-ltb}, Option.{slice_get_cases, get_or_from_slice_get}}
 use Rattle.osek_values.specs.{Names.{is_name}, Numbers.{block_no}}
-use Rattle.osek_standard.specs.Validity.{meet}
+use Rattle.osek_standard.specs.{Validity.{meet}, declared.objects.Task.{Task}}
 use Rattle.image_codec.specs.{declared.{fault.{ImageRule.{ImageRule, TheVariants.{I1, I2, I3, I4, I5}}, Fault.{Fault}}, parts.Range.{Range}}, Spelling.{magic}}
 use Rattle.image_model.specs.declared.image.Version.{Version}
 use Rattle.image_model.specs.declared.image.Version.TheVariants as version
-use Rattle.image_codec.specs.TableReading.{version_of, version_at}
-use Rattle.image_codec.specs.Reading.{Read, ◌>>=◌, fault_at, kept, found_at, unused_byte_at, unused_16_at, text_at, name_at, byte_at, number_at, tested_byte_at, tested_at, count_at, range_at}
-use Rattle.image_codec.specs.FieldTable.{fault_of, Field, field, any, some, below, at_most, none_of, broken_at, or_later, first_broken, behind, front, magic_field, further_field, unused_field, is_name_len, name_broken, name_field, first_field, count_field, range_fields, or_else}
+use Rattle.image_codec.specs.TableReading.{version_of, version_at, is_property, property_at}
+use Rattle.image_codec.specs.Reading.{Read, ◌>>=◌, fault_at, kept, found_at, further_byte_at, unused_byte_at, unused_16_at, text_at, name_at, byte_at, byte_below_at, flag_at, number_at, tested_byte_at, tested_at, count_at, range_at}
+use Rattle.image_codec.specs.FieldTable.{fault_of, Field, field, any, some, below, at_most, none_of, broken_at, or_later, first_broken, behind, front, magic_field, further_field, unused_field, property_field, is_name_len, name_broken, name_field, first_field, count_field, range_fields, or_else}
 
 -- reading gives this fault, or a value that is so, and leaves the rest
 abbrev pub CoversAt : {A : Type 0} → (A → Type 0) → Option Fault → List ℕ → Read A → Type 0
@@ -147,6 +147,11 @@ tested_byte_is test bytes = ap (λ (r : Read ℕ). r >>= λ n. kept (test n.0) I
 pub byte_covers : (test : ℕ → Bool) (bytes : List ℕ) → Covers (Numbered w8 bytes) (field w8 test any ∷ []) bytes (tested_byte_at test I3 bytes)
 byte_covers test bytes = subst (Covers (Numbered w8 bytes) (field w8 test any ∷ []) bytes) (sym (tested_byte_is test bytes)) (tested_covers w8 bytes test)
 
+-- a byte with a range, and a relation to what was read before
+pub crossed_byte_covers : (test refers : ℕ → Bool) (bytes : List ℕ) → Covers (Numbered w8 bytes) (field w8 test refers ∷ []) bytes (tested_byte_at test I3 bytes >>= λ n. kept (refers n.0) I5 bytes n)
+crossed_byte_covers test refers bytes =
+    subst (λ (r : Read ℕ). Covers (Numbered w8 bytes) (field w8 test refers ∷ []) bytes (r >>= λ n. kept (refers n.0) I5 bytes n)) (sym (tested_byte_is test bytes)) (crossed_covers w8 bytes test refers)
+
 -- an entry of a list by its number
 abbrev pub Found : {X : Type 0} → Bool → X → Option X → Type 0
 Found true x o = o ≡ Some x
@@ -181,6 +186,32 @@ unfolding version_at
 magic_covers bytes = magic_by bytes (take 8 bytes) (drop 8 bytes) (nat_lt (length bytes) 8)
 
 -- ---- fields of version 2 alone
+
+pub further_byte_covers : (v : Version) (value : ℕ) (test : ℕ → Bool) (bytes : List ℕ) → Covers Any (further_field v (field w8 test any)) bytes (further_byte_at v value test bytes)
+unfolding further_byte_at
+further_byte_covers version.One value test bytes = (value, refl, tt)
+further_byte_covers version.Two value test bytes = covers_any (Numbered w8 bytes) (field w8 test any ∷ []) bytes _ (byte_covers test bytes)
+
+-- what is made of a number is tested as the number is
+module _ {B : Type 0} (make : ℕ → B) (test : B → Bool) (bytes : List ℕ) where
+  kept_by : (n : ℕ) (rest : List ℕ) (passes : Bool) → kept passes I5 bytes (make n, rest) ≡ (kept passes I5 bytes (n, rest) >>= λ x. Ok (make x.0, x.1))
+  kept_by n rest true = refl
+  kept_by n rest false = refl
+
+  kept_made : (r : Read ℕ) → ((r >>= λ x. Ok (make x.0, x.1)) >>= λ y. kept (test y.0) I5 bytes y) ≡ ((r >>= λ x. kept (test (make x.0)) I5 bytes x) >>= λ x. Ok (make x.0, x.1))
+  kept_made (Ok (n, rest)) = kept_by n rest (test (make n))
+  kept_made (Err f) = refl
+
+abbrev is_one : ℕ → Bool
+is_one n = n == 1
+
+pub property_covers : (v : Version) (tasks : List Task) (r : ℕ) (bytes : List ℕ) → Covers Any (further_field v (property_field tasks r)) bytes (property_at v tasks r bytes)
+unfolding property_at flag_at
+property_covers version.One tasks r bytes = (false, refl, tt)
+property_covers version.Two tasks r bytes =
+    subst (Covers Any (property_field tasks r ∷ []) bytes) (sym (kept_made is_one (is_property tasks r) bytes (byte_below_at 2 bytes)))
+    (covers_made (Numbered w8 bytes) Any (property_field tasks r ∷ []) bytes (byte_below_at 2 bytes >>= λ n. kept (is_property tasks r (is_one n.0)) I5 bytes n) is_one (λ _ _. tt)
+    (crossed_byte_covers (below 2) (λ n. is_property tasks r (is_one n)) bytes))
 
 pub unused_byte_covers : (v : Version) (value : ℕ) (bytes : List ℕ) → Covers Any (further_field v (unused_field w8 value)) bytes (unused_byte_at v value bytes)
 unfolding unused_byte_at

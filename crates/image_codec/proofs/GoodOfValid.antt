@@ -1,22 +1,25 @@
 -- The parts of each image are good: what is spelled passes every test of reading.
-use Rattle.std.proofs.Common.{◌≡◌, ℕ, zero, suc, ◌+◌, ◌^◌, ◌<◌, ◌≤◌, Bool, true, false, cond, ◌&&◌, eqb, leb, ltb, List, [], ◌∷◌, ◌++◌, length, map, get_or, Option, Some, None, Ok}
+use Rattle.std.proofs.Common.{◌≡◌, ℕ, zero, suc, ◌+◌, ◌^◌, ◌<◌, ◌≤◌, Bool, true, false, cond, ◌&&◌, ◌||◌, eqb, leb, ltb, List, [], ◌∷◌, ◌++◌, length, map, get_or, Option, Some, None, Ok}
 use Rattle.std.proofs.Common.{Err, refl, sym, ap, subst, ◌∙◌, append_assoc, arith, inl, inr}
-use Rattle.std.proofs.lemmas.Bool.{and_parts, and_from, or_cases, eqb-true, eq-eqb, leb-true, le-leb, lt-ltb, not-true, not_from_false, true≢false}
-use Rattle.std.proofs.lemmas.List.{append-nil, length-append, Elements.{All-get_or}}
+use Rattle.std.proofs.lemmas.Bool.{and_parts, and_from, or_cases, eqb-true, eq-eqb, ne_eqb, leb-true, le-leb, lt-ltb, not-true, not_from_false, true≢false}
+use Rattle.std.proofs.lemmas.List.{append-nil, length-append, Elements.{All-get_or}, Sums.{list_all-from_AllPass}}
 use Rattle.std.proofs.Math.Seq.{get_or-append_seam}
-use Rattle.std.specs.{Prelude.{slice_index_or, nat_eq, not, IsTrue}, List.{list_any, zip, IsDistinct}}
-use Rattle.osek_values.specs.{Names.{AreNames}, declared.numbers.ResNo.{ResNo}}
+use Rattle.std.specs.{Prelude.{slice_index_or, nat_eq, not, IsTrue}, List.{list_any, list_all, zip, IsDistinct}}
+use Rattle.osek_values.specs.{Names.{AreNames}, Numbers.{res_no}, declared.numbers.ResNo.{ResNo}}
 use Rattle.oil_system.specs.declared.objects.{Alarm.{Alarm}, Resource.{Resource}, Action.{Action}}
 use Rattle.oil_system.specs.declared.objects.Action.TheVariants as action
 use Rattle.osek_standard.specs.declared.{objects.{Task.{Task}, Isr.{Isr}, Counter.{Counter}}, app.App.{App}}
-use Rattle.osek_standard.specs.Validity.{no_block, no_counter, meet, owners, is_cycle_of, IsAction, IsAlarmOf, IsOwner, IsValid, IsClosed, IsInternal, TakesOneActivation}
-use Rattle.osek_standard.specs.Validity.{NoneIsInternal, NoneNests, no_resource}
+use Rattle.osek_standard.specs.Validity.{no_block, no_counter, no_resource, meet, owners, is_cycle_of, is_internal, IsAction, IsAlarmOf, IsOwner, IsValid, IsClosed, IsInternal, NoneNests}
+use Rattle.osek_standard.specs.{Tables.{Tables as AppTables}, Versions.{NamesNone}}
 use Rattle.osek_standard.specs.Apps.{is_site_in}
-use Rattle.image_model.specs.{declared.{site.Site.{Site}, image.Image.{Image}}, Sites.{IsSiteAt}}
-use Rattle.image_codec.specs.{declared.{parts.{Header.{Header}, Range.{Range}, Tables.{Tables}, Parts.{Parts}}, fault.Fault.{Fault}}, Spelling.{spelling}}
+use Rattle.image_model.specs.{declared.{site.Site.{Site}, image.{Image.{Image}, Version.{Version}}}, Sites.{IsSiteAt}, Versions.{FitsAlone, FitsVersion1Alone}}
+use Rattle.image_model.specs.declared.image.Version.TheVariants as version
+use Rattle.image_codec.specs.{declared.{parts.{Header.{Header}, Range.{Range}, Tables.{Tables}, Parts.{Parts}}, fault.Fault.{Fault}}, Spelling.{spelling, internal_number}}
+use Rattle.image_codec.specs.TableReading.{is_priority, is_activation, is_internal_number, internal_of, is_other, is_property}
 use Rattle.image_codec.specs.{Fits.{FitsTask, FitsAction, FitsBlock, FitsFormat}, BlockReading.{parts_at, all_at}, ImageReading.{parts_of}, Laws.{OneSpelling}}
 use Rattle.image_codec.proofs.{Spells.{done_with, ok_is}, FieldLaws.{is_fresh, GoodRange}}
 use Rattle.image_codec.proofs.TableLaws.{GoodTask, GoodIsr, GoodCounter, GoodAction, GoodAlarm, GoodResource, GoodMode, GoodTables, range_of, isr_range_of, counter_range_of}
+use Rattle.image_codec.proofs.VersionLaws.{IsFurther, IsProperty}
 use Rattle.image_codec.proofs.{BlockLaws.{Entry, GoodBlock}, PartsLaws.{header_of, parts_law, GoodHeader, GoodParts, spelling_is, all_again}}
 use Rattle.image_codec.proofs.{EachLaws.{each_of, here_of_all, here_distinct, here_fresh}, OwnerTests.{any_of_map, map_same}, WholeTables.{tables_of_parts}, Places.{get_or-zip}}
 use Rattle.image_codec.proofs.{BlockLoop.{length-zip}, BlocksOfValid.{good_blank, good_filled, good_leads, FitsSite, good_site, says_its_own}, DecodeLaws.{image_ext}}
@@ -68,6 +71,58 @@ fits_site : (app : App) (is : Bool) (x : Option Site) → IsSiteAt app is x → 
 fits_site app is None h = h
 fits_site app is (Some s) h = h
 
+-- ---- what version 2 alone has a place for
+
+good_priority : (v : Version) (app : App) (sites : List (Option Site)) (e : List Task) (k : ℕ) → FitsAlone v app sites
+    → (FitsVersion1Alone app sites → list_any (λ (x : Task). nat_eq x.priority k) e ≡ false) → is_priority v e k ≡ true
+good_priority version.One app sites e k alone own = not_from_false _ (own alone)
+good_priority version.Two app sites e k alone own = refl
+
+good_further : (v : Version) (app : App) (sites : List (Option Site)) (value : ℕ) (test : ℕ → Bool) (k : ℕ) → FitsAlone v app sites
+    → (FitsVersion1Alone app sites → k ≡ value) → k < 256 → test k ≡ true → IsFurther v value test k
+good_further version.One app sites value test k alone is small passes = is alone
+good_further version.Two app sites value test k alone is small passes = (small, passes)
+
+good_property : (v : Version) (app : App) (sites : List (Option Site)) (tasks : List Task) (r : ℕ) (internal : Bool) → FitsAlone v app sites
+    → (FitsVersion1Alone app sites → internal ≡ false) → is_property tasks r internal ≡ true → IsProperty v tasks r internal
+good_property version.One app sites tasks r internal alone is passes = is alone
+good_property version.Two app sites tasks r internal alone is passes = (tt, passes)
+
+activation_from : (own n : ℕ) (none : Bool) → eqb own 0 ≡ none → 1 ≤ n → (0 < own → n ≡ 1) → cond none (ltb 0 n) (eqb n 1) ≡ true
+activation_from own n true e some once = lt-ltb 0 n some
+activation_from zero n false e some once = absurd cc
+activation_from (suc own) n false e some once = eq-eqb n 1 (once (omega arith))
+
+-- the number of an INTERNAL resource is a byte that passes its test, and stands for the resource
+record IsNumbered (resources : List Resource) (o : Option ResNo) : Type 0 where
+  pub small : internal_number o < 256
+  pub passes : is_internal_number (length resources) (internal_number o) ≡ true
+  pub again : internal_of (internal_number o) ≡ o
+
+numbered : (t : AppTables) (o : Option ResNo) → length t.resources ≤ 8 → IsInternal t o → IsNumbered t.resources o
+numbered t None few h = record { small = omega arith; passes = refl; again = refl }
+numbered t (Some r) few h =
+    let none : eqb r.0 0xff ≡ false = ne_eqb r.0 0xff (λ e. omega (arith, e, few, h.0)) in
+    record {
+      small = omega (arith, few, h.0);
+      passes = ap (λ (b : Bool). b || ltb r.0 (length t.resources)) none ∙ lt-ltb r.0 (length t.resources) h.0;
+      again = ap (λ (b : Bool). cond b None (Some (res_no r.0))) none;
+    }
+
+none_number : (o : Option ResNo) → NamesNone o → internal_number o ≡ 0xff
+none_number None h = refl
+none_number (Some r) h = absurd h
+
+-- a resource that isn't INTERNAL is no task's INTERNAL one
+none_other : (t : AppTables) (r : ℕ) (o : Option ResNo) → is_internal t.resources r ≡ false → IsInternal t o → is_other r o ≡ true
+none_other t r None takable h = refl
+none_other t r (Some m) takable h =
+    not_from_false (eqb m.0 r) (ne_eqb m.0 r (λ e. true≢false (sym h.1 ∙ ap (is_internal t.resources) e ∙ takable)))
+
+property_from : (tasks : List Task) (r : ℕ) (internal : Bool) → (internal ≡ false → list_all (λ (x : Task). is_other r x.internal) tasks ≡ true) → is_property tasks r internal ≡ true
+property_from tasks r true h = refl
+property_from tasks r false h = h refl
+
 module _ (i : Image) (fits : FitsFormat i) where
   abbrev p : Parts
   p = parts_of i
@@ -82,14 +137,9 @@ module _ (i : Image) (fits : FitsFormat i) where
   v = i.app.valid
 
   -- what no image brings yet
-  shut : TakesOneActivation (tables_of_parts p) × NoneIsInternal (tables_of_parts p) × NoneNests (tables_of_parts p)
+  shut : NoneNests (tables_of_parts p)
   unfolding IsClosed
   shut = v.closed
-
-  -- no task names an INTERNAL resource where there is none
-  none_inside : (o : Option ResNo) → IsInternal (tables_of_parts p) o → o ≡ None
-  none_inside None h = refl
-  none_inside (Some r) h = absurd (true≢false (sym h.1 ∙ not-true _ (All-get_or (λ (y : Resource). IsTrue (not y.internal)) t.resources r.0 no_resource h.0 shut.1)))
 
   abbrev ranges_t : List Task → List (ℕ × ℕ)
   ranges_t xs = map (λ (x : Task). (x.first.0, x.count)) xs
@@ -123,18 +173,28 @@ module _ (i : Image) (fits : FitsFormat i) where
       let all : IsDistinct meet (([] ++ ranges_t t.tasks) ++ (ranges_i t.isrs ++ ranges_c t.counters)) = subst (IsDistinct meet) (append_assoc (ranges_t t.tasks) (ranges_i t.isrs) (ranges_c t.counters)) v.apart in
       let apart = here_distinct meet (λ (y : Task). (y.first.0, y.count)) [] (ranges_i t.isrs ++ ranges_c t.counters) t.tasks e x l same all in
       let earlier : owners e [] [] ≡ ranges_t e = append-nil (ranges_t e ++ []) ∙ append-nil (ranges_t e) in
-      let priorities : IsDistinct nat_eq (([] ++ map (λ (y : Task). y.priority) t.tasks) ++ []) = subst (IsDistinct nat_eq) (sym (append-nil (map (λ (y : Task). y.priority) t.tasks))) i.both_versions.priorities.priorities in
-      let own = here_distinct nat_eq (λ (y : Task). y.priority) [] [] t.tasks e x l same priorities in
+      let own : FitsVersion1Alone i.app i.sites → list_any (λ (y : Task). nat_eq y.priority x.priority) e ≡ false = (λ alone.
+      let priorities : IsDistinct nat_eq (([] ++ map (λ (y : Task). y.priority) t.tasks) ++ []) = subst (IsDistinct nat_eq) (sym (append-nil (map (λ (y : Task). y.priority) t.tasks))) alone.tables.priorities in
+      sym (any_of_map (λ k. nat_eq k x.priority) (λ (y : Task). y.priority) e) ∙ here_distinct nat_eq (λ (y : Task). y.priority) [] [] t.tasks e x l same priorities) in
+      let active = here_of_all (λ (y : Task). (1 ≤ y.activation) × (y.activation ≤ 255)) t.tasks e x l same v.activations in
+      let once = here_of_all (λ (y : Task). 0 < y.own.0 → y.activation ≡ 1) t.tasks e x l same v.extended_once in
+      let number : IsNumbered t.resources x.internal =
+      numbered (tables_of_parts p) x.internal v.few_resources (here_of_all (λ (y : Task). IsInternal (tables_of_parts p) y.internal) t.tasks e x l same v.internals) in
       record {
         fresh = here_fresh (λ (y : Task). y.name) t.tasks e x l same v.task_names;
         priority_fits = f.priority;
-        priority_own = not_from_false _ (sym (any_of_map (λ k. nat_eq k x.priority) (λ (y : Task). y.priority) e) ∙ own);
+        priority = good_priority i.version i.app i.sites e x.priority i.its_version own;
         own_fits = f.own;
         autostart_fits = byte_of_modes x.autostart starts;
         autostart = lt-ltb _ _ starts;
         code = good_range (length p.blocks) x.first.0 x.count (owners e [] []) (range_of x) refl refl o.some o.inside v.few_blocks (ap (list_any (λ k. meet k (x.first.0, x.count))) earlier ∙ apart);
-        once = here_of_all (λ (y : Task). y.activation ≡ 1) t.tasks e x l same shut.0;
-        outside = none_inside x.internal (here_of_all (λ (y : Task). IsInternal (tables_of_parts p) y.internal) t.tasks e x l same v.internals);
+        activation = good_further i.version i.app i.sites 1 (is_activation x.own.0) x.activation i.its_version
+            (λ alone. here_of_all (λ (y : Task). y.activation ≡ 1) t.tasks e x l same alone.tables.activations)
+            (omega (arith, active.1)) (activation_from x.own.0 x.activation (eqb x.own.0 0) refl active.0 once);
+        internal = good_further i.version i.app i.sites 0xff (is_internal_number (length t.resources)) (internal_number x.internal) i.its_version
+            (λ alone. none_number x.internal (here_of_all (λ (y : Task). NamesNone y.internal) t.tasks e x l same alone.tables.internals))
+            number.small number.passes;
+        internal_again = number.again;
       }
 
   isr_here : (e : List Isr) (x : Isr) (l : List Isr) → e ++ x ∷ l ≡ t.isrs → GoodIsr n t.tasks e x
@@ -145,7 +205,7 @@ module _ (i : Image) (fits : FitsFormat i) where
       record {
         fresh = here_fresh (λ (y : Isr). y.name) t.isrs e x l same v.isr_names;
         code = good_range (length p.blocks) x.first.0 x.count (owners t.tasks e []) (isr_range_of x) refl refl o.some o.inside v.few_blocks (ap (list_any (λ k. meet k (x.first.0, x.count))) earlier ∙ apart);
-        lowest = here_of_all (λ (y : Isr). y.priority ≡ 0) t.isrs e x l same shut.2.0;
+        lowest = here_of_all (λ (y : Isr). y.priority ≡ 0) t.isrs e x l same shut.0;
       }
 
   counter_here : (e : List Counter) (x : Counter) (l : List Counter) → e ++ x ∷ l ≡ t.counters → GoodCounter n t.tasks t.isrs e x
@@ -185,15 +245,21 @@ module _ (i : Image) (fits : FitsFormat i) where
         cycle = start_cycle_from of x.cycle (eqb x.autostart 0) (λ h. (none (eqb-true x.autostart 0 h)).1) o.cycle;
       }
 
-  resource_here : (e : List Resource) (x : Resource) (l : List Resource) → e ++ x ∷ l ≡ t.resources → GoodResource e x
+  resource_here : (e : List Resource) (x : Resource) (l : List Resource) → e ++ x ∷ l ≡ t.resources → GoodResource i.version t.tasks e x
   resource_here e x l same =
       let c = here_of_all (λ (y : Resource). y.ceiling ≤ 131071) t.resources e x l same v.ceilings in
+      let here : is_internal t.resources (length e) ≡ x.internal = ap (λ (rs : List Resource). is_internal rs (length e)) (sym same) ∙ ap (λ (y : Resource). y.internal) (get_or-append_seam e x l no_resource) in
+      let others : x.internal ≡ false → list_all (λ (y : Task). is_other (length e) y.internal) t.tasks ≡ true = (λ takable.
+      list_all-from_AllPass (λ (y : Task). is_other (length e) y.internal) t.tasks
+      (λ k d lt. none_other (tables_of_parts p) (length e) (get_or t.tasks k d).internal (here ∙ takable) (v.internals k d lt))) in
       record {
         fresh = here_fresh (λ (y : Resource). y.name) t.resources e x l same v.resource_names;
         ceiling_fits = omega (arith, c);
         ceiling = le-leb x.ceiling 131071 c;
-        takable = not-true x.internal (here_of_all (λ (y : Resource). IsTrue (not y.internal)) t.resources e x l same shut.1);
-        no_interrupt_ceiling = here_of_all (λ (y : Resource). y.interrupt_ceiling ≡ 0) t.resources e x l same shut.2.1;
+        property = good_property i.version i.app i.sites t.tasks (length e) x.internal i.its_version
+            (λ alone. not-true x.internal (here_of_all (λ (y : Resource). IsTrue (not y.internal)) t.resources e x l same alone.tables.properties))
+            (property_from t.tasks (length e) x.internal others);
+        no_interrupt_ceiling = here_of_all (λ (y : Resource). y.interrupt_ceiling ≡ 0) t.resources e x l same shut.1;
       }
 
   mode_here : (e : List (List ℕ)) (x : List ℕ) (l : List (List ℕ)) → e ++ x ∷ l ≡ t.modes → GoodMode e x
@@ -206,7 +272,7 @@ module _ (i : Image) (fits : FitsFormat i) where
     isrs = (refl, each_of (GoodIsr n t.tasks) t.isrs isr_here);
     counters = (refl, each_of (GoodCounter n t.tasks t.isrs) t.counters counter_here);
     alarms = (refl, each_of (GoodAlarm n t.counters) t.alarms alarm_here);
-    resources = (refl, each_of GoodResource t.resources resource_here);
+    resources = (refl, each_of (GoodResource i.version t.tasks) t.resources resource_here);
     modes = (refl, each_of GoodMode t.modes mode_here);
   }
 
@@ -219,7 +285,7 @@ module _ (i : Image) (fits : FitsFormat i) where
         filled = good_filled p v b lt f.kind;
         leads = good_leads p v b lt;
         site = good_site i.version (length t.tasks) (is_site_in t.tasks b (get_or p.blocks b no_block).kind) (get_or p.sites b None) v.few_tasks (fits_site i.app (is_site_in t.tasks b (get_or p.blocks b no_block).kind) (get_or p.sites b None) (i.valid.each b lt))
-            (says_its_own i.version i.sites b (omega (arith, lt, i.valid.count)) i.its_version);
+            (says_its_own i.version i.app i.sites b (omega (arith, lt, i.valid.count)) i.its_version);
       }
 
   same_lengths : length p.blocks ≡ length p.sites

@@ -8,8 +8,8 @@ use Rattle.osek_standard.specs.declared.block.Kind.{Kind}
 use Rattle.osek_standard.specs.declared.block.Kind.TheVariants as kind
 use Rattle.image_model.specs.CallNames as call
 use Rattle.image_codec.specs.{declared.{fault.ImageRule.TheVariants.{I3, I5}, parts.Tables.{Tables}}, Spelling.{one, two, eight, kind_number, lock_number, operand_bytes}}
-use Rattle.image_codec.specs.Reading.{AreBytes, Read, ◌>>=◌, byte_at, number_at, tested_at}
-use Rattle.image_codec.specs.BlockReading.{blank_kinds, is_allowed, is_due, judged_at, kind_at, task_no_at, resource_no_at, alarm_no_at, events_at, locks, lock_of, lock_at, due_at, operands_at}
+use Rattle.image_codec.specs.Reading.{AreBytes, Read, ◌>>=◌, byte_at, byte_below_at, number_at, tested_at}
+use Rattle.image_codec.specs.BlockReading.{blank_kinds, is_allowed, is_takable, is_due, judged_at, kind_at, task_no_at, takable_at, alarm_no_at, events_at, locks, lock_of, lock_at, due_at, operands_at}
 use Rattle.image_codec.proofs.Spells.{bind_ok, kept_ok, kept_again, ok_is, Takes, Spells, nothing_more, and_then, wide16, wide64, number_law, byte_takes, Tested, tested_law, tested_byte_law, tested_number_law}
 
 -- ---- the kind
@@ -152,7 +152,7 @@ module _ (tables : Tables) (b : ℕ) where
   GoodOperands kind.Loop = ⊤
   GoodOperands (kind.Call (call.Task k x)) = GoodNo tasks x.0
   GoodOperands (kind.Call (call.Plain k)) = ⊤
-  GoodOperands (kind.Call (call.Resource k r)) = GoodNo resources r.0
+  GoodOperands (kind.Call (call.Resource k r)) = Tested (is_takable tables) (GoodNo resources) r.0
   GoodOperands (kind.Call (call.SetEvent x m)) = GoodNo tasks x.0 × GoodEvents m.0
   GoodOperands (kind.Call (call.Mask k m)) = GoodEvents m.0
   GoodOperands (kind.Call (call.Arm k a i c)) = GoodNo alarms a.0 × ((i < 2 ^ 64) × (c < 2 ^ 64))
@@ -167,8 +167,9 @@ module _ (tables : Tables) (b : ℕ) where
   pub task_no_law : Spells (task_no_at tables b) one (GoodNo tasks)
   task_no_law = tested_byte_law (is_below tasks) I3
 
-  pub resource_no_law : Spells (resource_no_at tables b) one (GoodNo resources)
-  resource_no_law = tested_byte_law (is_below resources) I3
+  pub takable_law : Spells (takable_at tables) one (Tested (is_takable tables) (GoodNo resources))
+  unfolding takable_at
+  takable_law = tested_law (byte_below_at resources) one (GoodNo resources) (is_takable tables) I5 (tested_byte_law (is_below resources) I3)
 
   pub alarm_no_law : Spells (alarm_no_at tables b) one (GoodNo alarms)
   alarm_no_law = tested_byte_law (is_below alarms) I3
@@ -234,7 +235,7 @@ module _ (tables : Tables) (b : ℕ) where
   operands_take kind.Loop = took_none kind.Loop refl tt
   operands_take (kind.Call (call.Task k x)) = took_one (task_no_at tables b) one (GoodNo tasks) task_no_law (λ n. (kind.Call (call.Task k (task_no n)))) first_of (λ n. refl) (kind.Call (call.Task k x)) (λ n. refl) (λ n g. record { number = refl; other = refl; operands = g })
   operands_take (kind.Call (call.Plain k)) = took_none (kind.Call (call.Plain k)) refl tt
-  operands_take (kind.Call (call.Resource k r)) = took_one (resource_no_at tables b) one (GoodNo resources) resource_no_law (λ n. (kind.Call (call.Resource k (res_no n)))) first_of (λ n. refl) (kind.Call (call.Resource k r)) (λ n. refl) (λ n g. record { number = refl; other = refl; operands = g })
+  operands_take (kind.Call (call.Resource k r)) = took_one (takable_at tables) one (Tested (is_takable tables) (GoodNo resources)) takable_law (λ n. (kind.Call (call.Resource k (res_no n)))) first_of (λ n. refl) (kind.Call (call.Resource k r)) (λ n. refl) (λ n g. record { number = refl; other = refl; operands = g })
   operands_take (kind.Call (call.SetEvent x m)) = taken _ _ _ set_event_law (kind.Call (call.SetEvent x m))
       (λ k g. (ap operand_bytes (sym g.1.1), subst (GoodFilled (kind.Call (call.SetEvent x m))) (sym g.1.1) (record { number = refl; other = refl; operands = (g.0, g.1.0) })))
   operands_take (kind.Call (call.Mask k m)) = took_one events_at eight GoodEvents events_law (λ n. (kind.Call (call.Mask k (mask n)))) first_of (λ n. refl) (kind.Call (call.Mask k m)) (λ n. refl) (λ n g. record { number = refl; other = refl; operands = g })

@@ -5,10 +5,10 @@ use Rattle.image_model.specs.declared.image.Image.{Image}
 use Rattle.image_codec.specs.{declared.parts.Parts.{Parts}, Fits.{FitsFormat}, Laws.{SpellOrFail, SpellingIsRead}, Reading.{AreBytes, Read}, BlockReading.{all_at}}
 use Rattle.image_codec.specs.{ImageReading.{read_image}, Spelling.{spelling}}
 use Rattle.image_codec.proofs.{DecodeLaws.{image_of, its_spelling, its_reading, its_fault}, GoodOfValid.{read_again}, PartsLaws.{GoodParts, all_takes}}
-use Rattle.image_codec.proofs.ValidOfGood.{valid_parts, both_parts, alone_parts, fits_parts, sites_parts}
+use Rattle.image_codec.proofs.ValidOfGood.{valid_parts, alone_parts, fits_parts, sites_parts}
 
 abbrev of_parts : (p : Parts) → GoodParts p → Image
-of_parts p good = image_of p (valid_parts p good) (record { both_versions = both_parts p good _ refl; its_version = alone_parts p good; sites = sites_parts p good _ refl refl })
+of_parts p good = image_of p (valid_parts p good) (record { its_version = alone_parts p good _ refl; sites = sites_parts p good _ refl refl })
 
 answer_of : (bytes : List ℕ) → AreBytes bytes → (read : Read Parts) → all_at bytes ≡ read → ((i : Image) × FitsFormat i × (spelling i ≡ bytes)) ⊎ ((f : ImageFault) × (read_image bytes ≡ Err f))
 answer_of bytes are (Ok (p, rest)) e =

@@ -1,19 +1,19 @@
 -- Readers of the header and the tables, and their spellings.
-use Rattle.std.proofs.Common.{◌≡◌, ℕ, zero, suc, ◌^◌, ◌<◌, Bool, true, false, cond, not, eqb, List, [], ◌++◌, map, Ok, refl, sym, ap, ◌∙◌, arith, None}
+use Rattle.std.proofs.Common.{◌≡◌, ℕ, zero, suc, ◌^◌, ◌<◌, Bool, true, false, cond, eqb, List, [], ◌++◌, length, map, Ok, refl, sym, ap, ◌∙◌, arith, Some, None}
 use Rattle.std.proofs.lemmas.Bool.{ltb-true, lt-ltb, eqb-true}
-use Rattle.std.specs.{Prelude.{nat_lt, nat_le, nat_eq, slice_index_or}, Int.{w16, w32, w64}, List.{list_any, flat_map}}
-use Rattle.osek_values.specs.Numbers.{task_no, counter_no, mask}
+use Rattle.std.specs.{Prelude.{nat_lt, nat_le, slice_index_or}, Int.{w16, w32, w64}, List.{flat_map}}
+use Rattle.osek_values.specs.Numbers.{task_no, counter_no, res_no, mask}
 use Rattle.oil_system.specs.declared.objects.{Alarm.{Alarm}, Resource.{Resource}, Action.{Action}}
 use Rattle.oil_system.specs.declared.objects.Action.TheVariants as action
 use Rattle.osek_standard.specs.{declared.objects.{Task.{Task}, Isr.{Isr}, Counter.{Counter}}, Validity.{no_counter, owners}}
 use Rattle.image_model.specs.declared.image.Version.{Version}
 use Rattle.image_codec.specs.declared.{fault.ImageRule.TheVariants.{I3, I5}, parts.{Header.{Header}, Range.{Range}, Tables.{Tables}}}
-use Rattle.image_codec.specs.Spelling.{one, two, four, eight, further, name_bytes, range_bytes, schedule_number, task_bytes, isr_bytes, counter_bytes, action_bytes, alarm_bytes}
+use Rattle.image_codec.specs.Spelling.{one, two, four, eight, further, name_bytes, range_bytes, schedule_number, flag_number, internal_number, task_bytes, isr_bytes, counter_bytes, action_bytes, alarm_bytes}
 use Rattle.image_codec.specs.Spelling.{resource_bytes}
-use Rattle.image_codec.specs.Reading.{number_at, tested_at, byte_below_at, unused_byte_at, unused_16_at, name_at, modes_at, range_at, entries_at}
-use Rattle.image_codec.specs.TableReading.{schedule_at, task_at, isr_at, counter_at, is_action_mask, action_of, action_at, is_start_time, is_start_cycle, alarm_at, resource_at}
+use Rattle.image_codec.specs.Reading.{number_at, tested_at, byte_below_at, further_byte_at, unused_byte_at, unused_16_at, name_at, modes_at, range_at, entries_at}
+use Rattle.image_codec.specs.TableReading.{is_priority, is_activation, is_internal_number, internal_of, property_at, schedule_at, task_at, isr_at, counter_at, is_action_mask, action_of, action_at, is_start_time, is_start_cycle, alarm_at, resource_at}
 use Rattle.image_codec.specs.TableReading.{tables_at, task_with, isr_with, resource_with}
-use Rattle.image_codec.proofs.VersionLaws.{unused_byte_law, unused_16_law}
+use Rattle.image_codec.proofs.VersionLaws.{IsFurther, further_byte_law, IsProperty, property_law, unused_byte_law, unused_16_law}
 use Rattle.image_codec.proofs.Spells.{joined3, joined4, joined6, joined8, Spells, nothing_more, and_then, said, wide16, wide32, wide64, number_law, Tested, tested_byte_law}
 use Rattle.image_codec.proofs.Spells.{tested_number_law, GoodEntries, entries_law}
 use Rattle.image_codec.proofs.FieldLaws.{is_fresh, name_law, GoodRange, range_law, schedule_law}
@@ -24,14 +24,19 @@ is_below limit n = nat_lt n limit
 abbrev pub task_names : List Task → List (List ℕ)
 task_names xs = map (λ (x : Task). x.name) xs
 
-abbrev pub is_own_priority : List Task → ℕ → Bool
-is_own_priority earlier p = not (list_any (λ (x : Task). nat_eq x.priority p) earlier)
-
 abbrev pub range_of : Task → Range
 range_of x = record { first = x.first; count = x.count }
 
-task_is : (x : Task) → x.activation ≡ 1 → x.internal ≡ None → x ≡ task_with x.name x.priority x.schedule x.own.0 x.autostart (range_of x)
-task_is x once outside = λ i. record {
+internal_back_by : (is : Bool) (n : ℕ) → eqb n 0xff ≡ is → internal_number (cond is None (Some (res_no n))) ≡ n
+internal_back_by true n e = sym (eqb-true n 0xff e)
+internal_back_by false n e = refl
+
+internal_back : (n : ℕ) → internal_number (internal_of n) ≡ n
+internal_back n = internal_back_by (eqb n 0xff) n refl
+
+task_is : (x : Task) → internal_of (internal_number x.internal) ≡ x.internal
+    → x ≡ task_with x.name x.priority x.schedule x.own.0 x.autostart (range_of x) x.activation (internal_number x.internal)
+task_is x again = λ i. record {
   name = x.name;
   priority = x.priority;
   schedule = x.schedule;
@@ -39,60 +44,62 @@ task_is x once outside = λ i. record {
   autostart = x.autostart;
   first = x.first;
   count = x.count;
-  activation = once i;
-  internal = outside i;
+  activation = x.activation;
+  internal = sym again i;
 }
 
 pub record GoodTask (n : Header) (earlier : List Task) (x : Task) : Type 0 where
   pub fresh : is_fresh (task_names earlier) x.name ≡ true
   pub priority_fits : x.priority < 2 ^ 16
-  pub priority_own : is_own_priority earlier x.priority ≡ true
+  pub priority : is_priority n.version earlier x.priority ≡ true
   pub own_fits : x.own.0 < 2 ^ 64
   pub autostart_fits : x.autostart < 256
   pub autostart : is_below (2 ^ n.modes) x.autostart ≡ true
   pub code : GoodRange n.blocks (owners earlier [] []) (range_of x)
-  pub once : x.activation ≡ 1
-  pub outside : x.internal ≡ None
+  pub activation : IsFurther n.version 1 (is_activation x.own.0) x.activation
+  pub internal : IsFurther n.version 0xff (is_internal_number n.resources) (internal_number x.internal)
+  pub internal_again : internal_of (internal_number x.internal) ≡ x.internal
 
 pub task_law : (n : Header) (earlier : List Task) → Spells (task_at n earlier) (task_bytes n.version) (GoodTask n earlier)
 unfolding task_at
 task_law n earlier =
     said (task_at n earlier) _ _ (task_bytes n.version) (GoodTask n earlier)
     (and_then (name_at (task_names earlier)) name_bytes _ (λ (x : Task). x.name) _ _ _ (name_law (task_names earlier)) (λ name _.
-    and_then (tested_at w16 (is_own_priority earlier) I5) two _ (λ (x : Task). x.priority) _ _ _ (tested_number_law w16 (2 ^ 16) wide16 (is_own_priority earlier) I5) (λ priority _.
+    and_then (tested_at w16 (is_priority n.version earlier) I5) two _ (λ (x : Task). x.priority) _ _ _ (tested_number_law w16 (2 ^ 16) wide16 (is_priority n.version earlier) I5) (λ priority _.
     and_then schedule_at (λ s. one (schedule_number s)) _ (λ (x : Task). x.schedule) _ _ _ schedule_law (λ schedule _.
     and_then (number_at w64) eight _ (λ (x : Task). x.own.0) _ _ _ (number_law w64 (2 ^ 64) wide64) (λ own _.
     and_then (modes_at n.modes) one _ (λ (x : Task). x.autostart) _ _ _ (tested_byte_law (is_below (2 ^ n.modes)) I3) (λ autostart _.
     and_then (range_at n.blocks (owners earlier [] [])) (λ (r : Range). range_bytes r.first r.count) _ range_of _ _ _ (range_law n.blocks (owners earlier [] [])) (λ code _.
-    and_then (unused_byte_at n.version 1) (λ k. further n.version (one k)) (λ k. k ≡ 1) (λ (_ : Task). 1) _ _ _ (unused_byte_law n.version 1 (omega arith)) (λ activation _.
-    and_then (unused_byte_at n.version 0xff) (λ k. further n.version (one k)) (λ k. k ≡ 0xff) (λ (_ : Task). 0xff)
-    (λ _ rest. Ok (task_with name priority schedule own autostart code, rest)) (λ _. []) (λ _ x. x ≡ task_with name priority schedule own autostart code)
-    (unused_byte_law n.version 0xff (omega arith)) (λ _ _. nothing_more (task_with name priority schedule own autostart code))
-    (λ k x good _. sym good))
-    (λ k x good _. sym good))
+    and_then (further_byte_at n.version 1 (is_activation own)) (λ k. further n.version (one k)) _ (λ (x : Task). x.activation) _ _ _ (further_byte_law n.version 1 (is_activation own)) (λ activation _.
+    and_then (further_byte_at n.version 0xff (is_internal_number n.resources)) (λ k. further n.version (one k)) _ (λ (x : Task). internal_number x.internal)
+    (λ internal rest. Ok (task_with name priority schedule own autostart code activation internal, rest)) (λ _. []) (λ internal x. x ≡ task_with name priority schedule own autostart code activation internal)
+    (further_byte_law n.version 0xff (is_internal_number n.resources)) (λ internal _. nothing_more (task_with name priority schedule own autostart code activation internal))
+    (λ internal x _ is. ap (λ (y : Task). internal_number y.internal) is ∙ internal_back internal))
+    (λ activation x _ good. ap (λ (y : Task). y.activation) good.1))
     (λ code x _ good. ap range_of good.1.1))
     (λ autostart x _ good. ap (λ (y : Task). y.autostart) good.1.1.1))
     (λ own x _ good. ap (λ (y : Task). y.own.0) good.1.1.1.1))
     (λ schedule x _ good. ap (λ (y : Task). y.schedule) good.1.1.1.1.1))
     (λ priority x _ good. ap (λ (y : Task). y.priority) good.1.1.1.1.1.1))
     (λ name x _ good. ap (λ (y : Task). y.name) good.1.1.1.1.1.1.1))
-    (λ x. joined8 (name_bytes x.name) (two x.priority) (one (schedule_number x.schedule)) (eight x.own.0) (one x.autostart) (range_bytes x.first x.count) (further n.version (one 1)) (further n.version (one 0xff)))
+    (λ x. joined8 (name_bytes x.name) (two x.priority) (one (schedule_number x.schedule)) (eight x.own.0) (one x.autostart) (range_bytes x.first x.count) (further n.version (one x.activation)) (further n.version (one (internal_number x.internal))))
     (λ x good. record {
       fresh = good.0;
       priority_fits = good.1.0.0;
-      priority_own = good.1.0.1;
+      priority = good.1.0.1;
       own_fits = good.1.1.1.0;
       autostart_fits = good.1.1.1.1.0.0;
       autostart = good.1.1.1.1.0.1;
       code = good.1.1.1.1.1.0;
-      once = ap (λ (y : Task). y.activation) good.1.1.1.1.1.1.1.1;
-      outside = ap (λ (y : Task). y.internal) good.1.1.1.1.1.1.1.1;
+      activation = good.1.1.1.1.1.1.0;
+      internal = good.1.1.1.1.1.1.1.0;
+      internal_again = sym (ap (λ (y : Task). y.internal) good.1.1.1.1.1.1.1.1);
     })
     (λ x good. (
       good.fresh,
       (
-        (good.priority_fits, good.priority_own),
-        (tt, (good.own_fits, ((good.autostart_fits, good.autostart), (good.code, (refl, (refl, task_is x good.once good.outside)))))),
+        (good.priority_fits, good.priority),
+        (tt, (good.own_fits, ((good.autostart_fits, good.autostart), (good.code, (good.activation, (good.internal, task_is x good.internal_again)))))),
       ),
     ))
 
@@ -281,39 +288,39 @@ alarm_law n counters earlier =
 abbrev pub resource_names : List Resource → List (List ℕ)
 resource_names xs = map (λ (x : Resource). x.name) xs
 
-resource_is : (x : Resource) → x.internal ≡ false → x.interrupt_ceiling ≡ 0 → x ≡ resource_with x.name x.ceiling
-resource_is x takable none = λ i. record { name = x.name; ceiling = x.ceiling; internal = takable i; interrupt_ceiling = none i }
+resource_is : (x : Resource) → x.interrupt_ceiling ≡ 0 → x ≡ resource_with x.name x.ceiling x.internal
+resource_is x none = λ i. record { name = x.name; ceiling = x.ceiling; internal = x.internal; interrupt_ceiling = none i }
 
-pub record GoodResource (earlier : List Resource) (x : Resource) : Type 0 where
+pub record GoodResource (v : Version) (tasks : List Task) (earlier : List Resource) (x : Resource) : Type 0 where
   pub fresh : is_fresh (resource_names earlier) x.name ≡ true
   pub ceiling_fits : x.ceiling < 2 ^ 32
   pub ceiling : is_at_most 131071 x.ceiling ≡ true
-  pub takable : x.internal ≡ false
+  pub property : IsProperty v tasks (length earlier) x.internal
   pub no_interrupt_ceiling : x.interrupt_ceiling ≡ 0
 
-pub resource_law : (v : Version) (earlier : List Resource) → Spells (resource_at v earlier) (resource_bytes v) (GoodResource earlier)
+pub resource_law : (v : Version) (tasks : List Task) (earlier : List Resource) → Spells (resource_at v tasks earlier) (resource_bytes v) (GoodResource v tasks earlier)
 unfolding resource_at
-resource_law v earlier =
-    said (resource_at v earlier) _ _ (resource_bytes v) (GoodResource earlier)
+resource_law v tasks earlier =
+    said (resource_at v tasks earlier) _ _ (resource_bytes v) (GoodResource v tasks earlier)
     (and_then (name_at (resource_names earlier)) name_bytes _ (λ (x : Resource). x.name) _ _ _ (name_law (resource_names earlier)) (λ name _.
     and_then (tested_at w32 (is_at_most 131071) I3) four _ (λ (x : Resource). x.ceiling) _ _ _ (tested_number_law w32 (2 ^ 32) wide32 (is_at_most 131071) I3) (λ ceiling _.
-    and_then (unused_byte_at v 0) (λ k. further v (one k)) (λ k. k ≡ 0) (λ (_ : Resource). 0) _ _ _ (unused_byte_law v 0 (omega arith)) (λ property _.
-    and_then (unused_16_at v 0) (λ k. further v (two k)) (λ k. k ≡ 0) (λ (_ : Resource). 0) (λ _ rest. Ok (resource_with name ceiling, rest)) (λ _. [])
-    (λ _ x. x ≡ resource_with name ceiling)
-    (unused_16_law v 0 (omega arith)) (λ _ _. nothing_more (resource_with name ceiling))
+    and_then (property_at v tasks (length earlier)) (λ internal. further v (one (flag_number internal))) _ (λ (x : Resource). x.internal) _ _ _ (property_law v tasks (length earlier)) (λ internal _.
+    and_then (unused_16_at v 0) (λ k. further v (two k)) (λ k. k ≡ 0) (λ (_ : Resource). 0) (λ _ rest. Ok (resource_with name ceiling internal, rest)) (λ _. [])
+    (λ _ x. x ≡ resource_with name ceiling internal)
+    (unused_16_law v 0 (omega arith)) (λ _ _. nothing_more (resource_with name ceiling internal))
     (λ k x good _. sym good))
-    (λ k x good _. sym good))
+    (λ internal x _ good. ap (λ (y : Resource). y.internal) good.1))
     (λ ceiling x _ good. ap (λ (y : Resource). y.ceiling) good.1.1))
     (λ name x _ good. ap (λ (y : Resource). y.name) good.1.1.1))
-    (λ x. joined4 (name_bytes x.name) (four x.ceiling) (further v (one 0)) (further v (two 0)))
+    (λ x. joined4 (name_bytes x.name) (four x.ceiling) (further v (one (flag_number x.internal))) (further v (two 0)))
     (λ x good. record {
       fresh = good.0;
       ceiling_fits = good.1.0.0;
       ceiling = good.1.0.1;
-      takable = ap (λ (y : Resource). y.internal) good.1.1.1.1;
+      property = good.1.1.0;
       no_interrupt_ceiling = ap (λ (y : Resource). y.interrupt_ceiling) good.1.1.1.1;
     })
-    (λ x good. (good.fresh, ((good.ceiling_fits, good.ceiling), (refl, (refl, resource_is x good.takable good.no_interrupt_ceiling)))))
+    (λ x good. (good.fresh, ((good.ceiling_fits, good.ceiling), (good.property, (refl, resource_is x good.no_interrupt_ceiling)))))
 
 -- ---- modes
 
@@ -330,7 +337,7 @@ pub record GoodTables (n : Header) (t : Tables) : Type 0 where
   pub isrs : GoodEntries (GoodIsr n t.tasks) n.isrs t.isrs
   pub counters : GoodEntries (GoodCounter n t.tasks t.isrs) n.counters t.counters
   pub alarms : GoodEntries (GoodAlarm n t.counters) n.alarms t.alarms
-  pub resources : GoodEntries GoodResource n.resources t.resources
+  pub resources : GoodEntries (GoodResource n.version t.tasks) n.resources t.resources
   pub modes : GoodEntries GoodMode n.modes t.modes
 
 abbrev pub tables_bytes : Version → Tables → List ℕ
@@ -346,7 +353,7 @@ tables_law n =
     and_then (entries_at (isr_at n tasks) [] n.isrs) (flat_map (isr_bytes n.version)) _ (λ (t : Tables). t.isrs) _ _ _ (entries_law (isr_at n tasks) (isr_bytes n.version) (GoodIsr n tasks) (isr_law n tasks) n.isrs) (λ isrs _.
     and_then (entries_at (counter_at n tasks isrs) [] n.counters) (flat_map counter_bytes) _ (λ (t : Tables). t.counters) _ _ _ (entries_law (counter_at n tasks isrs) counter_bytes (GoodCounter n tasks isrs) (counter_law n tasks isrs) n.counters) (λ counters _.
     and_then (entries_at (alarm_at n counters) [] n.alarms) (flat_map alarm_bytes) _ (λ (t : Tables). t.alarms) _ _ _ (entries_law (alarm_at n counters) alarm_bytes (GoodAlarm n counters) (alarm_law n counters) n.alarms) (λ alarms _.
-    and_then (entries_at (resource_at n.version) [] n.resources) (flat_map (resource_bytes n.version)) _ (λ (t : Tables). t.resources) _ _ _ (entries_law (resource_at n.version) (resource_bytes n.version) GoodResource (resource_law n.version) n.resources) (λ resources _.
+    and_then (entries_at (resource_at n.version tasks) [] n.resources) (flat_map (resource_bytes n.version)) _ (λ (t : Tables). t.resources) _ _ _ (entries_law (resource_at n.version tasks) (resource_bytes n.version) (GoodResource n.version tasks) (resource_law n.version tasks) n.resources) (λ resources _.
     and_then (entries_at name_at [] n.modes) (flat_map name_bytes) _ (λ (t : Tables). t.modes)
     (λ modes rest. Ok (the_tables tasks isrs counters alarms resources modes, rest)) (λ _. []) (λ modes t. t ≡ the_tables tasks isrs counters alarms resources modes)
     (entries_law name_at name_bytes GoodMode name_law n.modes) (λ modes _. nothing_more (the_tables tasks isrs counters alarms resources modes))

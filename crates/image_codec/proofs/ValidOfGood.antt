@@ -1,26 +1,27 @@
 -- What was read is a valid application, with its sites.
-use Rattle.std.proofs.Common.{◌≡◌, ℕ, suc, ◌+◌, ◌^◌, ◌<◌, ◌≤◌, Bool, true, false, cond, not, ◌&&◌, eqb, leb, ltb, List, [], ◌++◌, length, map, get_or, Option, Some, None, All}
+use Rattle.std.proofs.Common.{◌≡◌, ℕ, suc, ◌+◌, ◌^◌, ◌<◌, ◌≤◌, Bool, true, false, cond, not, ◌&&◌, ◌||◌, eqb, leb, ltb, List, [], ◌++◌, length, map, get_or, Option, Some, None, All}
 use Rattle.std.proofs.Common.{refl, sym, ap, subst, ◌∙◌, arith, inl, inr}
-use Rattle.std.proofs.lemmas.{Bool.{and_parts, eqb-true, eq-eqb, leb-true, ltb-true, not-true, or_left}, List.{append-nil}}
-use Rattle.std.specs.{Prelude.{slice_index_or, nat_eq, IsTrue}, List.{list_any, zip, IsDistinct}}
-use Rattle.osek_values.specs.Names.{AreNames}
+use Rattle.std.proofs.lemmas.{Bool.{and_parts, eqb-true, eq-eqb, ne_eqb, leb-true, ltb-true, not-true, or_cases, or_left, true≢false}, List.{append-nil, Sums.{AllPass-from_list_all}}}
+use Rattle.std.specs.{Prelude.{slice_index_or, nat_eq, IsTrue}, List.{list_any, list_all, zip, IsDistinct}}
+use Rattle.osek_values.specs.{Names.{AreNames}, Numbers.{res_no}, declared.numbers.ResNo.{ResNo}}
 use Rattle.oil_system.specs.declared.objects.{Alarm.{Alarm}, Resource.{Resource}, Action.{Action}}
 use Rattle.oil_system.specs.declared.objects.Action.TheVariants as action
 use Rattle.osek_standard.specs.declared.{objects.{Task.{Task}, Isr.{Isr}, Counter.{Counter}}, block.{Block.{Block}, Kind.{Kind}}, app.App.{App}}
-use Rattle.osek_standard.specs.Validity.{no_block, no_counter, meet, owners, is_cycle_of, IsAction, IsAlarmOf, IsValid, IsClosed, IsInternal, NoneIsInternal}
-use Rattle.osek_standard.specs.{Versions.{FitsVersion1}, Apps.{is_site, is_site_in}}
+use Rattle.osek_standard.specs.Validity.{no_block, no_counter, no_resource, meet, owners, is_cycle_of, is_internal, IsAction, IsAlarmOf, IsValid, IsClosed, IsInternal}
+use Rattle.osek_standard.specs.{Versions.{FitsVersion1, NamesNone}, Apps.{tables, is_site, is_site_in}}
 use Rattle.osek_standard.specs.declared.block.Kind.TheVariants as kind
-use Rattle.image_model.specs.{declared.{site.{Form.{Form}, Known.{Known}, Site.{Site}}, image.Version.{Version}}, Versions.{IsUnknown, SaysNothing, FitsBothVersions, FitsAlone}}
+use Rattle.image_model.specs.{declared.{site.{Form.{Form}, Known.{Known}, Site.{Site}}, image.Version.{Version}}, Versions.{IsUnknown, SaysNothing, FitsAlone}}
 use Rattle.image_model.specs.Sites.{IsForm, IsSiteAt, AreSites}
 use Rattle.image_model.specs.CallNames as call
 use Rattle.image_model.specs.declared.site.Form.TheVariants as form
 use Rattle.image_model.specs.declared.site.Known.TheVariants as known
 use Rattle.image_model.specs.declared.image.Version.TheVariants as version
-use Rattle.image_codec.specs.{declared.parts.{Header.{Header}, Tables.{Tables}, Parts.{Parts}}, Spelling.{form_number}, Fits.{FitsTask, FitsAction, FitsKind, FitsParts}}
-use Rattle.image_codec.specs.BlockReading.{form_of}
+use Rattle.image_codec.specs.{declared.parts.{Header.{Header}, Tables.{Tables}, Parts.{Parts}}, Spelling.{form_number, internal_number}, Fits.{FitsTask, FitsAction, FitsKind, FitsParts}}
+use Rattle.image_codec.specs.{BlockReading.{form_of}, TableReading.{is_priority, is_activation, is_internal_number, internal_of, is_other}}
 use Rattle.image_codec.proofs.{FieldLaws.{is_fresh, is_inside}, TableLaws.{GoodTask, GoodIsr, GoodCounter, GoodAction, GoodAlarm, GoodResource, GoodMode}, KindLaws.{GoodOperands}}
+use Rattle.image_codec.proofs.VersionLaws.{IsFurther, IsProperty}
 use Rattle.image_codec.proofs.{FoundLaws.{first_choice}, SiteLaws.{GoodSite}, BlockLaws.{unwayed, GoodBlock}, PartsLaws.{header_of, GoodParts}}
-use Rattle.image_codec.proofs.{EachLaws.{each_all, each_distinct, each_named, distinct_nil}, OwnerTests.{any_of_map, map_same}, WholeTables.{tables_of_parts}}
+use Rattle.image_codec.proofs.{EachLaws.{each_all, each_distinct, each_named, each_weaker, distinct_nil}, OwnerTests.{any_of_map, map_same}, WholeTables.{tables_of_parts}}
 use Rattle.image_codec.proofs.{Places.{each_at, get_or-zip}, BlockLoop.{length-zip}}
 use Rattle.image_codec.proofs.BlocksOfGood.{block_owned, task_owner, task_code, isr_owner, isr_code, counter_owner, tick_code}
 
@@ -62,9 +63,50 @@ says_nothing : (tasks : ℕ) (is : Bool) (x : Option Site) → GoodSite version.
 says_nothing tasks is None good = tt
 says_nothing tasks is (Some s) good = unknown_by s.known good.1.1
 
-alone_by : (v : Version) (sites : List (Option Site)) → (v ≡ version.One → All SaysNothing sites) → FitsAlone v sites
-alone_by version.One sites h = record { unknown = h refl }
-alone_by version.Two sites h = tt
+alone_by : (v : Version) (app : App) (sites : List (Option Site)) → (v ≡ version.One → FitsVersion1 (tables app)) → (v ≡ version.One → All SaysNothing sites) → FitsAlone v app sites
+alone_by version.One app sites h k = record { tables = h refl; unknown = k refl }
+alone_by version.Two app sites h k = tt
+
+-- ---- activations, and INTERNAL resources
+
+activation_by : (n : ℕ) (none : Bool) → n < 256 → cond none (ltb 0 n) (eqb n 1) ≡ true → (1 ≤ n) × (n ≤ 255)
+activation_by n true small e = let some = ltb-true 0 n e in (omega (arith, some), omega (arith, small))
+activation_by n false small e = let one = eqb-true n 1 e in (omega (arith, one), omega (arith, one))
+
+activation_range : (v : Version) (own n : ℕ) → IsFurther v 1 (is_activation own) n → (1 ≤ n) × (n ≤ 255)
+activation_range version.One own n e = let once : n ≡ 1 = e in (omega (arith, once), omega (arith, once))
+activation_range version.Two own n good = activation_by n (eqb own 0) good.0 good.1
+
+activated_once : (v : Version) (own n : ℕ) → IsFurther v 1 (is_activation own) n → 0 < own → n ≡ 1
+activated_once version.One own n e some = e
+activated_once version.Two own n good some =
+    let extended : eqb own 0 ≡ false = ne_eqb own 0 (λ e. omega (arith, e, some)) in
+    eqb-true n 1 (sym (ap (λ (b : Bool). cond b (ltb 0 n) (eqb n 1)) extended) ∙ good.1)
+
+-- a number that stands for a resource isn't that of none
+not_none : (none : Bool) (r : ResNo) → cond none None (Some (res_no r.0)) ≡ Some r → none ≡ false
+not_none true r e = absurd cc
+not_none false r e = refl
+
+names_none : (o : Option ResNo) → internal_of (internal_number o) ≡ o → internal_number o ≡ 0xff → NamesNone o
+names_none None again e = tt
+names_none (Some r) again e = true≢false (sym (eq-eqb r.0 0xff e) ∙ not_none (eqb r.0 0xff) r again)
+
+module _ (tasks : List Task) (resources : List Resource) where
+  -- the INTERNAL resource of a number that a task names is there, and is INTERNAL
+  internal_by : (v : Version) (r : ResNo) → internal_of r.0 ≡ Some r → IsFurther v 0xff (is_internal_number (length resources)) r.0
+      → (r.0 < length resources → IsProperty v tasks r.0 (is_internal resources r.0)) → (list_all (λ (x : Task). is_other r.0 x.internal) tasks ≡ true → ⊥)
+      → (r.0 < length resources) × IsTrue (is_internal resources r.0)
+  internal_by version.One r again e property named = absurd (true≢false (sym (eq-eqb r.0 0xff e) ∙ not_none (eqb r.0 0xff) r again))
+  internal_by version.Two r again good property named =
+      let some : eqb r.0 0xff ≡ false = not_none (eqb r.0 0xff) r again in
+      let below : r.0 < length resources = ltb-true _ _ (sym (ap (λ (b : Bool). b || ltb r.0 (length resources)) some) ∙ good.1) in (
+        below,
+        elim (or_cases (is_internal resources r.0) (list_all (λ (x : Task). is_other r.0 x.internal) tasks) (property below).1) [
+          | inl h ↦ h
+          | inr h ↦ absurd (named h)
+        ],
+      )
 
 -- ---- alarms
 
@@ -164,18 +206,30 @@ module _ (p : Parts) (good : GoodParts p) where
     cycle = start_cycle_fits (slice_index_or t.counters x.counter.0 no_counter) x.cycle (eqb x.autostart 0) g.cycle;
   }
 
-  takable : NoneIsInternal (tables_of_parts p)
-  takable = each_all GoodResource (λ (x : Resource). IsTrue (not x.internal)) (λ e x g. ap (λ (b : Bool). not b) g.takable) t.resources good.tables.resources.1
+  -- what a task says of its INTERNAL resource
+  abbrev SaysInternal : Option ResNo → Type 0
+  SaysInternal o = IsFurther p.version 0xff (is_internal_number (length t.resources)) (internal_number o) × (internal_of (internal_number o) ≡ o)
+
+  says_internal : All (λ (x : Task). SaysInternal x.internal) t.tasks
+  says_internal = each_all (GoodTask n) (λ (x : Task). SaysInternal x.internal) (λ e x g. (g.internal, g.internal_again)) t.tasks good.tables.tasks.1
+
+  has_property : (r : ℕ) → r < length t.resources → IsProperty p.version t.tasks r (is_internal t.resources r)
+  has_property r lt =
+      each_at (λ (k : ℕ) (x : Resource). IsProperty p.version t.tasks k x.internal) t.resources
+      (each_weaker (GoodResource p.version t.tasks) (λ (e : List Resource) (x : Resource). IsProperty p.version t.tasks (length e) x.internal) (λ e x g. g.property) [] t.resources good.tables.resources.1) r no_resource lt
+
+  internal_is : (k : ℕ) (d : Task) → k < length t.tasks → (o : Option ResNo) → (get_or t.tasks k d).internal ≡ o → IsInternal (tables_of_parts p) o
+  internal_is k d lt None is = tt
+  internal_is k d lt (Some r) is =
+      let says : SaysInternal (Some r) = subst SaysInternal is (says_internal k d lt) in
+      internal_by t.tasks t.resources p.version r says.1 says.0 (has_property r.0)
+      (λ all. true≢false (sym (AllPass-from_list_all (λ (x : Task). is_other r.0 x.internal) t.tasks all k d lt) ∙ ap (is_other r.0) is ∙ ap not (eq-eqb r.0 r.0 refl)))
 
   closed_parts : IsClosed (tables_of_parts p)
   unfolding IsClosed
   closed_parts = (
-    each_all (GoodTask n) (λ (x : Task). x.activation ≡ 1) (λ e x g. g.once) t.tasks good.tables.tasks.1,
-    takable,
-    (
-      each_all (GoodIsr n t.tasks) (λ (x : Isr). x.priority ≡ 0) (λ e x g. g.lowest) t.isrs good.tables.isrs.1,
-      each_all GoodResource (λ (x : Resource). x.interrupt_ceiling ≡ 0) (λ e x g. g.no_interrupt_ceiling) t.resources good.tables.resources.1,
-    ),
+    each_all (GoodIsr n t.tasks) (λ (x : Isr). x.priority ≡ 0) (λ e x g. g.lowest) t.isrs good.tables.isrs.1,
+    each_all (GoodResource n.version t.tasks) (λ (x : Resource). x.interrupt_ceiling ≡ 0) (λ e x g. g.no_interrupt_ceiling) t.resources good.tables.resources.1,
   )
 
   pub valid_parts : IsValid (tables_of_parts p)
@@ -193,50 +247,50 @@ module _ (p : Parts) (good : GoodParts p) where
     isr_names = each_named (GoodIsr n t.tasks) (λ (x : Isr). x.name) (λ e x g. g.fresh) t.isrs good.tables.isrs.1;
     counter_names = each_named (GoodCounter n t.tasks t.isrs) (λ (x : Counter). x.name) (λ e x g. g.fresh) t.counters good.tables.counters.1;
     alarm_names = each_named (GoodAlarm n t.counters) (λ (x : Alarm). x.name) (λ e x g. g.fresh) t.alarms good.tables.alarms.1;
-    resource_names = each_named GoodResource (λ (x : Resource). x.name) (λ e x g. g.fresh) t.resources good.tables.resources.1;
+    resource_names = each_named (GoodResource n.version t.tasks) (λ (x : Resource). x.name) (λ e x g. g.fresh) t.resources good.tables.resources.1;
     mode_names = subst AreNames (map_same t.modes)
         (each_named GoodMode (λ (x : List ℕ). x) (λ e x g. subst (λ ms. is_fresh ms x ≡ true) (sym (map_same e)) g) t.modes good.tables.modes.1);
-    each_task = λ k d lt. let code = tasks_inside k d lt in task_owner p good.same block_fact takable k d lt (some_of _ _ _ code) (inside_of _ _ _ code);
-    task_code = λ k d lt. let code = tasks_inside k d lt in task_code p good.same block_fact takable k d lt (inside_of _ _ _ code);
+    each_task = λ k d lt. let code = tasks_inside k d lt in task_owner p good.same block_fact k d lt (some_of _ _ _ code) (inside_of _ _ _ code);
+    task_code = λ k d lt. let code = tasks_inside k d lt in task_code p good.same block_fact k d lt (inside_of _ _ _ code);
     task_starts = each_all (GoodTask n) (λ (x : Task). x.autostart < 2 ^ length t.modes) (λ e x g. ltb-true _ _ g.autostart) t.tasks good.tables.tasks.1;
-    activations = each_all (GoodTask n) (λ (x : Task). (1 ≤ x.activation) × (x.activation ≤ 255)) (λ e x g. (omega (arith, g.once), omega (arith, g.once))) t.tasks good.tables.tasks.1;
-    extended_once = each_all (GoodTask n) (λ (x : Task). 0 < x.own.0 → x.activation ≡ 1) (λ e x g _. g.once) t.tasks good.tables.tasks.1;
-    internals =
-        each_all (GoodTask n) (λ (x : Task). IsInternal (tables_of_parts p) x.internal)
-        (λ e x g. subst (IsInternal (tables_of_parts p)) (sym g.outside) tt) t.tasks good.tables.tasks.1;
-    each_isr = λ k d lt. let code = isrs_inside k d lt in isr_owner p good.same block_fact takable k d lt (some_of _ _ _ code) (inside_of _ _ _ code);
-    isr_code = λ k d lt. let code = isrs_inside k d lt in isr_code p good.same block_fact takable k d lt (inside_of _ _ _ code);
+    activations = each_all (GoodTask n) (λ (x : Task). (1 ≤ x.activation) × (x.activation ≤ 255)) (λ e x g. activation_range n.version x.own.0 x.activation g.activation) t.tasks good.tables.tasks.1;
+    extended_once = each_all (GoodTask n) (λ (x : Task). 0 < x.own.0 → x.activation ≡ 1) (λ e x g. activated_once n.version x.own.0 x.activation g.activation) t.tasks good.tables.tasks.1;
+    internals = λ k d lt. internal_is k d lt (get_or t.tasks k d).internal refl;
+    each_isr = λ k d lt. let code = isrs_inside k d lt in isr_owner p good.same block_fact k d lt (some_of _ _ _ code) (inside_of _ _ _ code);
+    isr_code = λ k d lt. let code = isrs_inside k d lt in isr_code p good.same block_fact k d lt (inside_of _ _ _ code);
     isr_priorities = each_all (GoodIsr n t.tasks) (λ (x : Isr). x.priority < 256) (λ e x g. omega (arith, g.lowest)) t.isrs good.tables.isrs.1;
     each_counter = λ k d lt.
         let code = counters_inside k d lt in (
           each_all (GoodCounter n t.tasks t.isrs) (λ (x : Counter). 1 ≤ x.max) (λ e x g. ltb-true _ _ g.max_some) t.counters good.tables.counters.1 k d lt,
-          counter_owner p good.same block_fact takable k d lt (some_of _ _ _ code) (inside_of _ _ _ code),
+          counter_owner p good.same block_fact k d lt (some_of _ _ _ code) (inside_of _ _ _ code),
         );
     min_cycles = each_all (GoodCounter n t.tasks t.isrs) (λ (x : Counter). x.min_cycle ≤ x.max) (λ e x g. leb-true _ _ g.min_within) t.counters good.tables.counters.1;
-    tick_code = λ c lt. let code = counters_inside c no_counter lt in tick_code p good.same block_fact takable c no_counter lt (some_of _ _ _ code) (inside_of _ _ _ code);
+    tick_code = λ c lt. let code = counters_inside c no_counter lt in tick_code p good.same block_fact c no_counter lt (some_of _ _ _ code) (inside_of _ _ _ code);
     each_alarm = each_all (GoodAlarm n t.counters) (IsAlarmOf (tables_of_parts p)) (λ e x g. alarm_is x e g) t.alarms good.tables.alarms.1;
     alarm_starts = each_all (GoodAlarm n t.counters) (λ (x : Alarm). x.autostart < 2 ^ length t.modes) (λ e x g. ltb-true _ _ g.autostart) t.alarms good.tables.alarms.1;
     no_starts = each_all (GoodAlarm n t.counters) (λ (x : Alarm). x.autostart ≡ 0 → (x.time ≡ 0) × (x.cycle ≡ 0))
         (λ e x g none. (start_none (eqb x.autostart 0) _ x.time (eq-eqb x.autostart 0 none) g.time, start_none (eqb x.autostart 0) _ x.cycle (eq-eqb x.autostart 0 none) g.cycle)) t.alarms good.tables.alarms.1;
-    ceilings = each_all GoodResource (λ (x : Resource). x.ceiling ≤ 131071) (λ e x g. leb-true _ _ g.ceiling) t.resources good.tables.resources.1;
-    interrupt_ceilings = each_all GoodResource (λ (x : Resource). x.interrupt_ceiling ≤ 256) (λ e x g. omega (arith, g.no_interrupt_ceiling)) t.resources good.tables.resources.1;
+    ceilings = each_all (GoodResource n.version t.tasks) (λ (x : Resource). x.ceiling ≤ 131071) (λ e x g. leb-true _ _ g.ceiling) t.resources good.tables.resources.1;
+    interrupt_ceilings = each_all (GoodResource n.version t.tasks) (λ (x : Resource). x.interrupt_ceiling ≤ 256) (λ e x g. omega (arith, g.no_interrupt_ceiling)) t.resources good.tables.resources.1;
     apart = apart_c;
-    owned = block_owned p good.same block_fact takable;
+    owned = block_owned p good.same block_fact;
     closed = closed_parts;
   }
 
-  priorities_parts : FitsVersion1 t.tasks
-  priorities_parts = record {
+  version_1_parts : p.version ≡ version.One → FitsVersion1 (tables_of_parts p)
+  version_1_parts one = record {
     priorities = each_distinct (GoodTask n) nat_eq (λ (x : Task). x.priority) []
-        (λ e x g. any_of_map (λ k. nat_eq k x.priority) (λ (y : Task). y.priority) e ∙ not-true _ g.priority_own) t.tasks (distinct_nil nat_eq) good.tables.tasks.1;
+        (λ e x g. any_of_map (λ k. nat_eq k x.priority) (λ (y : Task). y.priority) e ∙ not-true _ (subst (λ (v : Version). is_priority v e x.priority ≡ true) one g.priority)) t.tasks (distinct_nil nat_eq) good.tables.tasks.1;
+    activations = each_all (GoodTask n) (λ (x : Task). x.activation ≡ 1) (λ e x g. subst (λ (v : Version). IsFurther v 1 (is_activation x.own.0) x.activation) one g.activation) t.tasks good.tables.tasks.1;
+    properties = each_all (GoodResource n.version t.tasks) (λ (x : Resource). IsTrue (not x.internal))
+        (λ e x g. ap not (subst (λ (v : Version). IsProperty v t.tasks (length e) x.internal) one g.property)) t.resources good.tables.resources.1;
+    internals = each_all (GoodTask n) (λ (x : Task). NamesNone x.internal)
+        (λ e x g. names_none x.internal g.internal_again (subst (λ (v : Version). IsFurther v 0xff (is_internal_number (length t.resources)) (internal_number x.internal)) one g.internal)) t.tasks good.tables.tasks.1;
   }
 
-  pub both_parts : (app : App) → app.tasks ≡ t.tasks → FitsBothVersions app
-  both_parts app same = record { priorities = subst FitsVersion1 (sym same) priorities_parts }
-
-  pub alone_parts : FitsAlone p.version p.sites
-  alone_parts =
-      alone_by p.version p.sites (λ one b d lt.
+  pub alone_parts : (app : App) → tables app ≡ tables_of_parts p → FitsAlone p.version app p.sites
+  alone_parts app same =
+      alone_by p.version app p.sites (λ one. subst FitsVersion1 (sym same) (version_1_parts one)) (λ one b d lt.
       let below : b < length blocks = omega (arith, lt, good.same) in
       let is = is_site_in t.tasks b (get_or blocks b no_block).kind in
       says_nothing (length t.tasks) is (get_or p.sites b d)

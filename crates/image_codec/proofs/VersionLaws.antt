@@ -1,12 +1,13 @@
 -- Readers of what the versions differ in, and their spellings: the magic, and the fields that version 2 alone has.
-use Rattle.std.proofs.Common.{◌≡◌, ℕ, ◌^◌, ◌<◌, ◌≤◌, false, inl, inr, eqb, ltb, List, ◌++◌, length, take, drop, Some, None, refl, sym, ap, subst, ◌∙◌, arith}
+use Rattle.std.proofs.Common.{◌≡◌, ℕ, ◌^◌, ◌<◌, ◌≤◌, Bool, false, inl, inr, eqb, ltb, List, ◌++◌, length, take, drop, Some, None, refl, sym, ap, subst, ◌∙◌, arith}
 use Rattle.std.specs.{Int.{w16}, Str.{bytes_eq}}
 use Rattle.std.proofs.lemmas.{Bool.{ltb-false, le-ltb, eqb-true, eq-eqb}, List.{take_at, drop_at, take-append-drop, length-append, length-take}}
+use Rattle.osek_standard.specs.declared.objects.Task.{Task}
 use Rattle.image_model.specs.declared.image.Version.{Version}
 use Rattle.image_model.specs.declared.image.Version.TheVariants as version
-use Rattle.image_codec.specs.{declared.fault.ImageRule.TheVariants.{I1, I2, I3}, Spelling.{one, two, magic, further}}
-use Rattle.image_codec.specs.{Reading.{Read, fault_at, text_at, unused_byte_at, unused_16_at}, TableReading.{version_of, version_at}}
-use Rattle.image_codec.proofs.{Spells.{AreBytes-drop, enough_ok, Takes, Spells, nothing_more, said, wide16, Tested, tested_byte_law, tested_number_law}, FieldLaws.{bytes_eq_is}}
+use Rattle.image_codec.specs.{declared.fault.ImageRule.TheVariants.{I1, I2, I3, I5}, Spelling.{one, two, magic, further, flag_number}}
+use Rattle.image_codec.specs.{Reading.{Read, fault_at, text_at, flag_at, further_byte_at, unused_byte_at, unused_16_at}, TableReading.{version_of, version_at, is_property, property_at}}
+use Rattle.image_codec.proofs.{Spells.{AreBytes-drop, enough_ok, Takes, Spells, nothing_more, said, wide16, Tested, tested_law, tested_byte_law, tested_number_law}, FieldLaws.{bytes_eq_is, flag_law}}
 use Rattle.image_codec.proofs.FoundLaws.{first_choice, found_law}
 
 -- ---- the magic
@@ -49,6 +50,26 @@ version_law =
     (λ front v _ e. (version_back front v e, tt)) (λ v _. version_again v)
 
 -- ---- fields of version 2 alone
+
+-- a number that passes a test in version 2, and is this one in version 1
+abbrev pub IsFurther : Version → ℕ → (ℕ → Bool) → ℕ → Type 0
+IsFurther version.One value test n = n ≡ value
+IsFurther version.Two value test n = Tested test (λ k. k < 256) n
+
+pub further_byte_law : (v : Version) (value : ℕ) (test : ℕ → Bool) → Spells (further_byte_at v value test) (λ n. further v (one n)) (IsFurther v value test)
+unfolding further_byte_at
+further_byte_law version.One value test = nothing_more value
+further_byte_law version.Two value test = tested_byte_law test I3
+
+-- a property that goes with the tasks that name the resource
+abbrev pub IsProperty : Version → List Task → ℕ → Bool → Type 0
+IsProperty version.One tasks r internal = internal ≡ false
+IsProperty version.Two tasks r internal = Tested (is_property tasks r) (λ _. Unit {0}) internal
+
+pub property_law : (v : Version) (tasks : List Task) (r : ℕ) → Spells (property_at v tasks r) (λ internal. further v (one (flag_number internal))) (IsProperty v tasks r)
+unfolding property_at
+property_law version.One tasks r = nothing_more false
+property_law version.Two tasks r = tested_law flag_at (λ internal. one (flag_number internal)) (λ _. Unit {0}) (is_property tasks r) I5 flag_law
 
 pub unused_byte_law : (v : Version) (value : ℕ) → value < 256 → Spells (unused_byte_at v value) (λ n. further v (one n)) (λ n. n ≡ value)
 unfolding unused_byte_at

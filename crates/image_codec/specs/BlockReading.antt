@@ -1,5 +1,5 @@
 -- Reading the blocks of an image, and its end.
-use Rattle.std.specs.Prelude.{ℕ, ◌+◌, ◌-◌, ◌≤◌, Bool, true, false, ◌&&◌, nat_lt, nat_le, ◌==◌, List, [], ◌∷◌, length, map, slice_get, slice_index_or, Option, Some, None, Ok, Err, if◌then◌else◌}
+use Rattle.std.specs.Prelude.{ℕ, ◌+◌, ◌-◌, ◌≤◌, Bool, true, false, not, ◌&&◌, nat_lt, nat_le, ◌==◌, List, [], ◌∷◌, length, map, slice_get, slice_index_or, Option, Some, None, Ok, Err, if◌then◌else◌}
 use Rattle.std.specs.{Int.{w16, w32, w64}, List.{list_any, list_all, enumerate_from}}
 use Rattle.osek_values.specs.Numbers.{task_no, alarm_no, res_no, block_no, mask}
 use Rattle.oil_system.specs.declared.objects.Alarm.{Alarm}
@@ -9,7 +9,7 @@ use Rattle.osek_values.specs.declared.status.Status.TheVariants as status
 use Rattle.osek_standard.specs.declared.{objects.{Task.{Task}, Isr.{Isr}, Counter.{Counter}}, block.{Block.{Block}, Kind.{Kind}}}
 use Rattle.osek_standard.specs.declared.block.Kind.TheVariants as kind
 use Rattle.image_model.specs.CallNames as call
-use Rattle.osek_standard.specs.Validity.{owners, is_within, task_may, isr_may, due_of}
+use Rattle.osek_standard.specs.Validity.{owners, is_within, task_may, isr_may, due_of, is_internal}
 use Rattle.image_codec.specs.declared.fault.ImageRule.TheVariants.{I3, I5, I6}
 use Rattle.image_model.specs.declared.site.{Form.{Form}, Known.{Known}, Site.{Site}}
 use Rattle.image_model.specs.declared.site.Form.TheVariants as form
@@ -73,6 +73,15 @@ unfoldable pub lock_at : List ℕ → Read Lock
 lock_at bytes = do
   n ← byte_at bytes
   lock_of bytes n.1 (slice_get locks n.0)
+
+-- a resource that isn't INTERNAL
+abbrev pub is_takable : Tables → ℕ → Bool
+is_takable t r = not (is_internal t.resources r)
+
+unfoldable pub takable_at : Tables → List ℕ → Read ℕ
+takable_at t bytes = do
+  r ← byte_below_at (length t.resources) bytes
+  kept (is_takable t r.0) I5 bytes r
 
 -- the alarm is the one that is due at the place of block b in the tick routine of a counter
 abbrev pub is_due_in : List Alarm → ℕ → ℕ → ℕ × Counter → Bool
@@ -168,9 +177,6 @@ module _ (t : Tables) (b : ℕ) where
   abbrev pub task_no_at : List ℕ → Read ℕ
   task_no_at bytes = byte_below_at (length t.tasks) bytes
 
-  abbrev pub resource_no_at : List ℕ → Read ℕ
-  resource_no_at bytes = byte_below_at (length t.resources) bytes
-
   abbrev pub alarm_no_at : List ℕ → Read ℕ
   alarm_no_at bytes = byte_below_at (length t.alarms) bytes
 
@@ -191,7 +197,7 @@ module _ (t : Tables) (b : ℕ) where
     Ok ((kind.Call (call.Task k (task_no x.0))), x.1)
   operands_at (kind.Call (call.Plain k)) bytes = Ok (kind.Call (call.Plain k), bytes)
   operands_at (kind.Call (call.Resource k _)) bytes = do
-    r ← resource_no_at bytes
+    r ← takable_at t bytes
     Ok ((kind.Call (call.Resource k (res_no r.0))), r.1)
   operands_at (kind.Call (call.SetEvent _ _)) bytes = do
     x ← task_no_at bytes

@@ -1,7 +1,7 @@
 -- What the format asks of each field, as a table and without a reader. Of the fields in their order the first that breaks
 -- a rule is at fault, and of the rules that it breaks that of the lowest number.
 use Rattle.std.specs.Prelude.{ℕ, zero, suc, ◌+◌, ◌^◌, Bool, true, ◌||◌, ◌&&◌, not, nat_lt, nat_le, ◌==◌, List, [], ◌∷◌, ◌++◌, length, map, take, drop, slice_index, slice_index_or, Option, Some, None, Ok, Err, if◌then◌else◌}
-use Rattle.std.specs.{Int.{Width, w8, w16, w32, w64, byte_len, from_be_bytes}, List.{list_any}, Str.{bytes_eq}}
+use Rattle.std.specs.{Int.{Width, w8, w16, w32, w64, byte_len, from_be_bytes}, List.{list_any, list_all}, Str.{bytes_eq}}
 use Rattle.osek_values.specs.{declared.limits.TheConstants.{MAX_TASKS, MAX_ISRS, MAX_COUNTERS, MAX_ALARMS, MAX_RESOURCES, MAX_MODES, MAX_BLOCKS, MAX_NAME}, Names.{is_name}}
 use Rattle.oil_system.specs.{declared.objects.{Alarm.{Alarm}, Resource.{Resource}}, Objects.{greatest_ceiling}}
 use Rattle.osek_standard.specs.declared.{objects.{Task.{Task}, Isr.{Isr}, Counter.{Counter}}, block.Kind.{Kind}}
@@ -11,7 +11,7 @@ use Rattle.osek_standard.specs.{Apps.{is_site_in}, Validity.{no_counter, meet, o
 use Rattle.image_codec.specs.{declared.{fault.{ImageRule.{ImageRule, TheVariants.{I1, I2, I3, I4, I5}}, Fault.{Fault}}, parts.{Header.{Header}, Tables.{Tables}}}, Spelling.{magic}}
 use Rattle.image_model.specs.declared.image.Version.{Version}
 use Rattle.image_model.specs.declared.image.Version.TheVariants as version
-use Rattle.image_codec.specs.{TableReading.{is_action_mask, is_start_time, is_start_cycle}, Reading.{Read, fault_at}, BlockReading.{blank_kinds, is_allowed, is_due, is_way}}
+use Rattle.image_codec.specs.{TableReading.{is_other, is_action_mask, is_start_time, is_start_cycle}, Reading.{Read, fault_at}, BlockReading.{blank_kinds, is_allowed, is_takable, is_due, is_way}}
 
 -- the fault that reading gives, if it gives one
 abbrev pub fault_of : {A : Type 0} → Read A → Option Fault
@@ -124,15 +124,32 @@ range_fields blocks earlier bytes = first_field blocks ∷ count_field blocks ea
 abbrev pub modes_field : ℕ → Field
 modes_field modes = field w8 (below (2 ^ modes)) any
 
+-- in version 1 no two priorities are the same
+abbrev pub priority_field : Version → List Task → Field
+priority_field version.One earlier = field w16 any (λ p. none_of (λ (x : Task). x.priority == p) earlier)
+priority_field version.Two earlier = field w16 any any
+
+-- a task with events takes one activation at a time
+abbrev pub activation_field : ℕ → Field
+activation_field own = field w8 (λ n. if own == 0 then some n else n == 1) any
+
+-- a resource, or none
+abbrev pub internal_field : ℕ → Field
+internal_field resources = field w8 (λ n. (n == 0xff) || below resources n) any
+
+-- the fields before a task's own event bits, and those before its blocks
+abbrev pub task_start : Header → List Task → List Field
+task_start n earlier = name_field (map (λ (x : Task). x.name) earlier) ∷ priority_field n.version earlier ∷ field w8 (below 2) any ∷ []
+
 abbrev pub task_head : Header → List Task → List Field
 task_head n earlier =
-    name_field (map (λ (x : Task). x.name) earlier) ∷ field w16 any (λ p. none_of (λ (x : Task). x.priority == p) earlier) ∷ field w8 (below 2) any
+    name_field (map (λ (x : Task). x.name) earlier) ∷ priority_field n.version earlier ∷ field w8 (below 2) any
     ∷ field w64 any any ∷ modes_field n.modes ∷ []
 
 abbrev pub task_fields : Header → List Task → List ℕ → List Field
 task_fields n earlier bytes =
     task_head n earlier ++ (range_fields n.blocks (owners earlier [] []) (behind (task_head n earlier) bytes)
-    ++ (further_field n.version (unused_field w8 1) ++ further_field n.version (unused_field w8 0xff)))
+    ++ (further_field n.version (activation_field (front w64 (behind (task_start n earlier) bytes))) ++ further_field n.version (internal_field n.resources)))
 
 abbrev pub isr_head : List Isr → List Field
 isr_head earlier = name_field (map (λ (x : Isr). x.name) earlier) ∷ []
@@ -168,10 +185,14 @@ alarm_fields n counters earlier bytes =
     let action = action_fields n (behind (name ∷ counter ∷ []) bytes) in
     name ∷ counter ∷ (action ++ start_fields n of (behind (name ∷ counter ∷ action) bytes))
 
-abbrev pub resource_fields : Version → List Resource → List Field
-resource_fields v earlier =
+-- a resource that a task names as its INTERNAL one is INTERNAL
+abbrev pub property_field : List Task → ℕ → Field
+property_field tasks r = field w8 (below 2) (λ n. (n == 1) || list_all (λ (x : Task). is_other r x.internal) tasks)
+
+abbrev pub resource_fields : Version → List Task → List Resource → List Field
+resource_fields v tasks earlier =
     name_field (map (λ (x : Resource). x.name) earlier) ∷ field w32 (at_most greatest_ceiling) any
-    ∷ (further_field v (unused_field w8 0) ++ further_field v (unused_field w16 0))
+    ∷ (further_field v (property_field tasks (length earlier)) ++ further_field v (unused_field w16 0))
 
 -- ---- block b of so many, beside the tables
 
@@ -195,7 +216,7 @@ module _ (t : Tables) (blocks b : ℕ) where
   task_field = field w8 (below (length t.tasks)) any
 
   abbrev pub resource_field : Field
-  resource_field = field w8 (below (length t.resources)) any
+  resource_field = field w8 (below (length t.resources)) (is_takable t)
 
   abbrev pub alarm_field : Field
   alarm_field = field w8 (below (length t.alarms)) any

@@ -32,7 +32,8 @@ pub record EntryFaults : Type 0 where
   pub counter : (n : Header) (tasks : List Task) (isrs : List Isr) (earlier : List Counter) (bytes : List ℕ)
       → fault_of (counter_at n tasks isrs earlier bytes) ≡ first_broken (counter_fields n tasks isrs earlier bytes) bytes
   pub alarm : (n : Header) (counters : List Counter) (earlier : List Alarm) (bytes : List ℕ) → fault_of (alarm_at n counters earlier bytes) ≡ first_broken (alarm_fields n counters earlier bytes) bytes
-  pub resource : (v : Version) (earlier : List Resource) (bytes : List ℕ) → fault_of (resource_at v earlier bytes) ≡ first_broken (resource_fields v earlier) bytes
+  pub resource : (v : Version) (tasks : List Task) (earlier : List Resource) (bytes : List ℕ)
+      → fault_of (resource_at v tasks earlier bytes) ≡ first_broken (resource_fields v tasks earlier) bytes
   pub mode : (earlier : List (List ℕ)) (bytes : List ℕ) → fault_of (name_at earlier bytes) ≡ first_broken (name_field earlier ∷ []) bytes
 
 -- that of the blocks behind the tables,

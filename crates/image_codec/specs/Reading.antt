@@ -70,6 +70,11 @@ abbrev pub found_at : {X : Type 0} → ImageRule → List ℕ → List ℕ → O
 found_at rule bytes rest None = Err (fault_at rule bytes)
 found_at rule bytes rest (Some x) = Ok (x, rest)
 
+-- A byte that version 2 alone has, and that passes a test there; in version 1 it is this one.
+unfoldable pub further_byte_at : Version → ℕ → (ℕ → Bool) → List ℕ → Read ℕ
+further_byte_at version.One value test bytes = Ok (value, bytes)
+further_byte_at version.Two value test bytes = tested_byte_at test I3 bytes
+
 -- A number that version 2 alone has, and that is this one as long as nothing uses it.
 unfoldable pub unused_byte_at : Version → ℕ → List ℕ → Read ℕ
 unused_byte_at version.One value bytes = Ok (value, bytes)

@@ -1,7 +1,7 @@
 -- The bytes of an image, of the format's versions 1 and 2: the fields in order, without gaps, numbers big-endian (this
 -- project's profile).
 use Rattle.std.specs.{Prelude.{ℕ, ◌+◌, Bool, List, [], ◌∷◌, ◌++◌, length, Option, Some, None, if◌then◌else◌, codes}, List.{flat_map, zip}, Int.{to_be_bytes, w16, w32, w64}}
-use Rattle.osek_values.specs.declared.{numbers.BlockNo.{BlockNo}, lock.Lock.{Lock}}
+use Rattle.osek_values.specs.declared.{numbers.{BlockNo.{BlockNo}, ResNo.{ResNo}}, lock.Lock.{Lock}}
 use Rattle.osek_values.specs.declared.lock.Lock.TheVariants as lock
 use Rattle.oil_system.specs.declared.objects.{Alarm.{Alarm}, Resource.{Resource}, Schedule.{Schedule, TheVariants.{Non, Full}}, Action.{Action}}
 use Rattle.oil_system.specs.declared.objects.Action.TheVariants as action
@@ -53,11 +53,19 @@ abbrev pub schedule_number : Schedule → ℕ
 schedule_number Non = 0
 schedule_number Full = 1
 
--- In version 2 a task has besides how often it may be activated, which is 1, and its internal resource, which is none;
+abbrev pub flag_number : Bool → ℕ
+flag_number b = if b then 1 else 0
+
+-- the number of an INTERNAL resource, ff where there is none
+abbrev pub internal_number : Option ResNo → ℕ
+internal_number None = 0xff
+internal_number (Some r) = r.0
+
+-- In version 2 a task has besides how many activations it takes at a time, and its INTERNAL resource;
 abbrev pub task_bytes : Version → Task → List ℕ
 task_bytes v x =
     name_bytes x.name ++ two x.priority ++ one (schedule_number x.schedule) ++ eight x.own.0 ++ one x.autostart
-    ++ range_bytes x.first x.count ++ further v (one 1) ++ further v (one 0xff)
+    ++ range_bytes x.first x.count ++ further v (one x.activation) ++ further v (one (internal_number x.internal))
 
 -- an ISR has its priority, which is 0;
 abbrev pub isr_bytes : Version → Isr → List ℕ
@@ -74,9 +82,9 @@ abbrev pub alarm_bytes : Alarm → List ℕ
 alarm_bytes x =
     name_bytes x.name ++ one x.counter.0 ++ action_bytes x.action ++ one x.autostart ++ four x.time ++ four x.cycle
 
--- and a resource its property, which is 0 for an ordinary one, and the ceiling of the interrupts, which is 0.
+-- and a resource its property, which is 1 for an INTERNAL one, and the ceiling of the interrupts, which is 0.
 abbrev pub resource_bytes : Version → Resource → List ℕ
-resource_bytes v x = name_bytes x.name ++ four x.ceiling ++ further v (one 0) ++ further v (two 0)
+resource_bytes v x = name_bytes x.name ++ four x.ceiling ++ further v (one (flag_number x.internal)) ++ further v (two 0)
 
 abbrev pub lock_number : Lock → ℕ
 lock_number lock.SuspendAll = 0
@@ -175,9 +183,6 @@ known_number (known.Always (Some x)) = status_number x
 abbrev pub site_bytes : Version → Option Site → List ℕ
 site_bytes v None = []
 site_bytes v (Some x) = two (form_number x.form) ++ further v (one (known_number x.known))
-
-abbrev pub flag_number : Bool → ℕ
-flag_number b = if b then 1 else 0
 
 abbrev pub block_bytes : Version → Block × Option Site → List ℕ
 block_bytes v x =

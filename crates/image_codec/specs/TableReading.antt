@@ -1,14 +1,14 @@
 -- Reading the header and the tables of an image.
-use Rattle.std.specs.Prelude.{ℕ, ◌+◌, ◌≤◌, Bool, false, not, ◌&&◌, nat_lt, nat_le, nat_eq, ◌==◌, List, [], length, map, Option, Some, None, Ok, slice_index_or, if◌then◌else◌}
-use Rattle.std.specs.{Int.{w16, w32, w64}, List.{list_any}, Str.{bytes_eq}}
+use Rattle.std.specs.Prelude.{ℕ, ◌+◌, ◌≤◌, Bool, true, false, not, ◌||◌, ◌&&◌, nat_lt, nat_le, nat_eq, ◌==◌, List, [], length, map, Option, Some, None, Ok, slice_index_or, if◌then◌else◌}
+use Rattle.std.specs.{Int.{w16, w32, w64}, List.{list_any, list_all}, Str.{bytes_eq}}
 use Rattle.osek_values.specs.{declared.limits.TheConstants.{MAX_TASKS, MAX_ISRS, MAX_COUNTERS, MAX_ALARMS, MAX_RESOURCES, MAX_MODES, MAX_BLOCKS}, Hooks.{hook_set}}
-use Rattle.osek_values.specs.Numbers.{task_no, counter_no, mask}
+use Rattle.osek_values.specs.{Numbers.{task_no, counter_no, res_no, mask}, declared.numbers.ResNo.{ResNo}}
 use Rattle.oil_system.specs.declared.objects.{Alarm.{Alarm}, Resource.{Resource}, Schedule.{Schedule, TheVariants.{Non, Full}}, Action.{Action}}
 use Rattle.oil_system.specs.declared.objects.Action.TheVariants as action
 use Rattle.oil_system.specs.Objects.{greatest_ceiling}
 use Rattle.osek_standard.specs.{declared.objects.{Task.{Task}, Isr.{Isr}, Counter.{Counter}}, Validity.{no_counter, is_cycle_of, owners}}
 use Rattle.image_codec.specs.{declared.{fault.ImageRule.TheVariants.{I2, I3, I5}, parts.{Header.{Header}, Range.{Range}, Tables.{Tables}}}, Spelling.{magic}}
-use Rattle.image_codec.specs.Reading.{Read, ◌>>=◌, number_at, tested_byte_at, tested_at, byte_below_at, text_at, found_at, unused_byte_at, unused_16_at, name_at, modes_at, range_at, entries_at}
+use Rattle.image_codec.specs.Reading.{Read, ◌>>=◌, kept, number_at, tested_byte_at, tested_at, byte_below_at, flag_at, text_at, found_at, further_byte_at, unused_byte_at, unused_16_at, name_at, modes_at, range_at, entries_at}
 use Rattle.image_model.specs.declared.image.Version.{Version}
 use Rattle.image_model.specs.declared.image.Version.TheVariants as version
 
@@ -53,9 +53,24 @@ schedule_at bytes = do
   n ← byte_below_at 2 bytes
   Ok (schedule_of n.0, n.1)
 
--- a task that is read takes one activation at a time and names no INTERNAL resource
-abbrev pub task_with : List ℕ → ℕ → Schedule → ℕ → ℕ → Range → Task
-task_with name priority schedule own autostart code = record {
+-- in version 1 no earlier task has the priority
+abbrev pub is_priority : Version → List Task → ℕ → Bool
+is_priority version.One earlier p = not (list_any (λ (x : Task). nat_eq x.priority p) earlier)
+is_priority version.Two earlier p = true
+
+-- a task takes some activations at a time, and one that has events takes one
+abbrev pub is_activation : ℕ → ℕ → Bool
+is_activation own n = if own == 0 then nat_lt 0 n else n == 1
+
+-- the number of one of so many resources, or ff
+abbrev pub is_internal_number : ℕ → ℕ → Bool
+is_internal_number resources n = (n == 0xff) || nat_lt n resources
+
+abbrev pub internal_of : ℕ → Option ResNo
+internal_of n = if n == 0xff then None else Some (res_no n)
+
+abbrev pub task_with : List ℕ → ℕ → Schedule → ℕ → ℕ → Range → ℕ → ℕ → Task
+task_with name priority schedule own autostart code activation internal = record {
   name = name;
   priority = priority;
   schedule = schedule;
@@ -63,22 +78,22 @@ task_with name priority schedule own autostart code = record {
   autostart = autostart;
   first = code.first;
   count = code.count;
-  activation = 1;
-  internal = None;
+  activation = activation;
+  internal = internal_of internal;
 }
 
--- a task, with a priority of its own
+-- a task
 unfoldable pub task_at : Header → List Task → List ℕ → Read Task
 task_at n earlier bytes = do
   name ← name_at (map (λ (x : Task). x.name) earlier) bytes
-  priority ← tested_at w16 (λ p. not (list_any (λ (x : Task). nat_eq x.priority p) earlier)) I5 name.1
+  priority ← tested_at w16 (is_priority n.version earlier) I5 name.1
   schedule ← schedule_at priority.1
   own ← number_at w64 schedule.1
   autostart ← modes_at n.modes own.1
   code ← range_at n.blocks (owners earlier [] []) autostart.1
-  activation ← unused_byte_at n.version 1 code.1
-  internal ← unused_byte_at n.version 0xff activation.1
-  Ok (task_with name.0 priority.0 schedule.0 own.0 autostart.0 code.0, internal.1)
+  activation ← further_byte_at n.version 1 (is_activation own.0) code.1
+  internal ← further_byte_at n.version 0xff (is_internal_number n.resources) activation.1
+  Ok (task_with name.0 priority.0 schedule.0 own.0 autostart.0 code.0 activation.0 internal.0, internal.1)
 
 -- an ISR that is read has the lowest priority
 abbrev pub isr_with : List ℕ → Range → Isr
@@ -130,17 +145,33 @@ alarm_at n counters earlier bytes = do
   cycle ← tested_at w32 (λ c. is_start_cycle (slice_index_or counters counter.0 no_counter) autostart.0 c) I3 time.1
   Ok (record { name = name.0; counter = counter_no counter.0; action = act.0; autostart = autostart.0; time = time.0; cycle = cycle.0 }, cycle.1)
 
--- a resource that is read isn't INTERNAL, and keeps no ISR out
-abbrev pub resource_with : List ℕ → ℕ → Resource
-resource_with name ceiling = record { name = name; ceiling = ceiling; internal = false; interrupt_ceiling = 0 }
+-- an INTERNAL resource that a task names isn't the one of this number
+abbrev pub is_other : ℕ → Option ResNo → Bool
+is_other r None = true
+is_other r (Some m) = not (m.0 == r)
 
-unfoldable pub resource_at : Version → List Resource → List ℕ → Read Resource
-resource_at v earlier bytes = do
+-- a resource that a task names as its INTERNAL one is INTERNAL
+abbrev pub is_property : List Task → ℕ → Bool → Bool
+is_property tasks r internal = internal || list_all (λ (x : Task). is_other r x.internal) tasks
+
+-- version 1 has no INTERNAL resource
+unfoldable pub property_at : Version → List Task → ℕ → List ℕ → Read Bool
+property_at version.One tasks r bytes = Ok (false, bytes)
+property_at version.Two tasks r bytes = do
+  internal ← flag_at bytes
+  kept (is_property tasks r internal.0) I5 bytes internal
+
+-- a resource that is read keeps no ISR out
+abbrev pub resource_with : List ℕ → ℕ → Bool → Resource
+resource_with name ceiling internal = record { name = name; ceiling = ceiling; internal = internal; interrupt_ceiling = 0 }
+
+unfoldable pub resource_at : Version → List Task → List Resource → List ℕ → Read Resource
+resource_at v tasks earlier bytes = do
   name ← name_at (map (λ (x : Resource). x.name) earlier) bytes
   ceiling ← tested_at w32 (λ c. nat_le c greatest_ceiling) I3 name.1
-  property ← unused_byte_at v 0 ceiling.1
+  property ← property_at v tasks (length earlier) ceiling.1
   interrupt_ceiling ← unused_16_at v 0 property.1
-  Ok (resource_with name.0 ceiling.0, interrupt_ceiling.1)
+  Ok (resource_with name.0 ceiling.0 property.0, interrupt_ceiling.1)
 
 -- the tables in order
 unfoldable pub tables_at : Header → List ℕ → Read Tables
@@ -149,6 +180,6 @@ tables_at n bytes = do
   isrs ← entries_at (isr_at n tasks.0) [] n.isrs tasks.1
   counters ← entries_at (counter_at n tasks.0 isrs.0) [] n.counters isrs.1
   alarms ← entries_at (alarm_at n counters.0) [] n.alarms counters.1
-  resources ← entries_at (resource_at n.version) [] n.resources alarms.1
+  resources ← entries_at (resource_at n.version tasks.0) [] n.resources alarms.1
   modes ← entries_at name_at [] n.modes resources.1
   Ok (record { tasks = tasks.0; isrs = isrs.0; counters = counters.0; alarms = alarms.0; resources = resources.0; modes = modes.0 }, modes.1)

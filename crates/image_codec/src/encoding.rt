@@ -1,13 +1,13 @@
 //! The bytes of an image.
 ghost use Rattle.std.specs.{Prelude.{◌≡◌, ◌++◌, length, OnOk, IfOk}, List.{flat_map, zip}};
-ghost use Rattle.image_codec.specs.Spelling.{one, eight, magic as magic_of, further, spelling, header_bytes, name_bytes, range_bytes, schedule_number as number_of_schedule, task_bytes, isr_bytes, counter_bytes, action_bytes, alarm_bytes, resource_bytes, operand_bytes, way_bytes, site_bytes, block_bytes};
+ghost use Rattle.image_codec.specs.Spelling.{one, eight, magic as magic_of, further, spelling, header_bytes, name_bytes, range_bytes, schedule_number as number_of_schedule, internal_number as number_of_internal, task_bytes, isr_bytes, counter_bytes, action_bytes, alarm_bytes, resource_bytes, operand_bytes, way_bytes, site_bytes, block_bytes};
 
 use crate::numbers::{form_number, kind_number, known_number, lock_number};
 use image_model::{Image, Site, Version};
 use osek_standard::{
     Action, Alarm, App, Block, Call, Counter, Isr, Kind, Resource, Schedule, Task,
 };
-use osek_values::{AlarmNo, BlockNo, Memory, Name};
+use osek_values::{AlarmNo, BlockNo, Memory, Name, ResNo};
 use std::alloc::{AllocError, Global};
 
 /// OSEKFIT and the version.
@@ -54,7 +54,16 @@ fn schedule_number(schedule: Schedule) -> u8
     }
 }
 
-/// Each task may be activated once and has no internal resource.
+/// The number of an INTERNAL resource.
+fn internal_number(internal: Option<ResNo>) -> u8
+    ensures { result ≡ number_of_internal internal }
+{
+    match internal {
+        None => 0xff,
+        Some(resource) => resource.0,
+    }
+}
+
 fn put_task(out: &mut Vec<u8>, version: Version, task: &Task) -> Result<(), AllocError>
     ensures { OnOk result (out.new.items ≡ out.old.items ++ task_bytes version task.now) }
 {
@@ -64,8 +73,8 @@ fn put_task(out: &mut Vec<u8>, version: Version, task: &Task) -> Result<(), Allo
     out.extend_from_slice(&task.own.0.to_be_bytes())?;
     out.push(task.autostart)?;
     put_range(out, task.first, task.count)?;
-    put_further(out, version, &[1])?;
-    put_further(out, version, &[0xff])
+    put_further(out, version, &[task.activation])?;
+    put_further(out, version, &[internal_number(task.internal)])
 }
 
 /// Each ISR has priority 0.
@@ -114,13 +123,13 @@ fn put_alarm(out: &mut Vec<u8>, alarm: &Alarm) -> Result<(), AllocError>
     out.extend_from_slice(&alarm.cycle.to_be_bytes())
 }
 
-/// Each resource is an ordinary one, without a ceiling of interrupts.
+/// Each resource is without a ceiling of interrupts.
 fn put_resource(out: &mut Vec<u8>, version: Version, resource: &Resource) -> Result<(), AllocError>
     ensures { OnOk result (out.new.items ≡ out.old.items ++ resource_bytes version resource.now) }
 {
     put_name(out, &resource.name)?;
     out.extend_from_slice(&resource.ceiling.to_be_bytes())?;
-    put_further(out, version, &[0])?;
+    put_further(out, version, &[resource.internal as u8])?;
     put_further(out, version, &0u16.to_be_bytes())
 }
 

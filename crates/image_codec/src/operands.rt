@@ -1,6 +1,7 @@
 //! Reading the operands of a kind.
-ghost use Rattle.std.specs.{Prelude.{ℕ, nat_lt, length}, Int.{w16, w64}};
-ghost use Rattle.image_codec.specs.{Reading.{Gives, byte_below_at, tested_at}, BlockReading.{AreSmall, lock_at, due_at, operands_at}, declared.fault.ImageRule.TheVariants.{I3}};
+ghost use Rattle.std.specs.{Prelude.{◌≡◌, ℕ, nat_lt, length}, Int.{w16, w64}};
+ghost use Rattle.osek_standard.specs.Validity.{is_internal};
+ghost use Rattle.image_codec.specs.{Reading.{Gives, byte_below_at, tested_at}, BlockReading.{AreSmall, lock_at, takable_at, due_at, operands_at}, declared.fault.ImageRule.TheVariants.{I3}};
 ghost use Rattle.osek_standard.specs.declared.block.Kind.TheVariants as kind;
 
 use crate::fault::{ImageRule, ReadError};
@@ -8,7 +9,7 @@ use crate::numbers::lock_of;
 use crate::parts::Tables;
 use crate::placing::is_due;
 use crate::reader::{Reader, fault};
-use osek_standard::{Call, Kind};
+use osek_standard::{Call, Kind, Resource};
 use osek_values::{AlarmNo, Lock, Mask, ResNo, TaskNo};
 
 /// The number of a task.
@@ -46,6 +47,31 @@ fn instructions(reader: &mut Reader) -> Result<u16, ReadError>
         return Err(fault(ImageRule::I3, left));
     }
     Ok(count)
+}
+
+fn is_internal(resources: &[Resource], number: u8) -> bool
+    ensures { result ≡ is_internal resources.now number }
+{
+    let at = number as usize;
+    if at < resources.len() {
+        resources[at].internal
+    } else {
+        false
+    }
+}
+
+/// A resource that isn't INTERNAL.
+#[tactic(auto, unfolding(crate::specs::BlockReading::takable_at))]
+fn takable(reader: &mut Reader, tables: &Tables) -> Result<ResNo, ReadError>
+    requires { AreSmall tables.now }
+    ensures { Gives (λ x. x.0) result reader.new (takable_at tables.now reader.old) }
+{
+    let left = reader.left();
+    let resource = resource_no(reader, tables)?;
+    if is_internal(tables.resources.as_slice(), resource.0) {
+        return Err(fault(ImageRule::I5, left));
+    }
+    Ok(resource)
 }
 
 /// Some events.
@@ -97,7 +123,7 @@ fn call_operands(reader: &mut Reader, tables: &Tables, call: Call) -> Result<Kin
     let filled = match call {
         Call::Plain(_) | Call::ShutdownOs => call,
         Call::Task(service, _) => Call::Task(service, task_no(reader, tables)?),
-        Call::Resource(service, _) => Call::Resource(service, resource_no(reader, tables)?),
+        Call::Resource(service, _) => Call::Resource(service, takable(reader, tables)?),
         Call::SetEvent(_, _) => {
             let task = task_no(reader, tables)?;
             Call::SetEvent(task, events(reader)?)

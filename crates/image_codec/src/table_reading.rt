@@ -1,7 +1,8 @@
 //! Reading the tables of an image.
-ghost use Rattle.std.specs.{Prelude.{◌≡◌, ◌≤◌, IfOk, [], not, nat_eq, nat_lt, nat_le, length}, Int.{w16, w32}, List.{list_any}};
-ghost use Rattle.image_codec.specs.Reading.{Gives, tested_at, entries_at, name_at};
-ghost use Rattle.image_codec.specs.TableReading.{HasFew, schedule_of as schedule_of_number, schedule_at, task_at, isr_at, counter_at, alarm_at, resource_at, tables_at};
+ghost use Rattle.std.specs.{Prelude.{◌≡◌, ◌≤◌, IfOk, [], nat_eq, nat_lt, nat_le, length}, Int.{w16, w32}, List.{list_any, list_all}};
+ghost use Rattle.image_codec.specs.Reading.{Gives, tested_at, further_byte_at, entries_at, name_at};
+ghost use Rattle.image_codec.specs.TableReading.{HasFew, is_priority, is_activation, is_internal_number, internal_of as internal_of_number, is_other, is_property, property_at};
+ghost use Rattle.image_codec.specs.TableReading.{schedule_of as schedule_of_number, schedule_at, task_at, isr_at, counter_at, alarm_at, resource_at, tables_at};
 ghost use Rattle.image_codec.specs.{BlockReading.{AreSmall}, declared.fault.ImageRule.TheVariants.{I3, I5}};
 
 use crate::alarms::alarm;
@@ -12,7 +13,7 @@ use crate::reader::{Reader, fault};
 use image_model::Version;
 use osek_standard::{Alarm, Counter, Isr, Resource, Schedule, Task};
 use osek_values::limits::MAX_MODES;
-use osek_values::{Mask, Name, Seq};
+use osek_values::{Mask, Name, ResNo, Seq};
 use std::alloc::Global;
 
 /// Above the greatest base priority, which is twice a number of 16 bits.
@@ -25,16 +26,84 @@ fn has_priority(tasks: &[Task], priority: u16) -> bool
     tasks.iter().any(|x| x.priority == priority)
 }
 
+/// Whether a task may have the priority: in version 1 it is no earlier task's.
+fn is_priority(version: Version, earlier: &[Task], priority: u16) -> bool
+    ensures { result ≡ is_priority version earlier.now priority }
+{
+    match version {
+        Version::One => !has_priority(earlier, priority),
+        Version::Two => true,
+    }
+}
+
 #[tactic(auto, unfolding(crate::specs::Reading::tested_at))]
-fn priority(reader: &mut Reader, earlier: &[Task]) -> Result<u16, ReadError>
-    ensures { Gives (λ x. x) result reader.new (tested_at w16 (λ p. not (list_any (λ x. nat_eq x.priority p) earlier.now)) I5 reader.old) }
+fn priority(reader: &mut Reader, version: Version, earlier: &[Task]) -> Result<u16, ReadError>
+    ensures { Gives (λ x. x) result reader.new (tested_at w16 (is_priority version earlier.now) I5 reader.old) }
 {
     let left = reader.left();
     let priority = reader.number_16()?;
-    if has_priority(earlier, priority) {
+    if !is_priority(version, earlier, priority) {
         return Err(fault(ImageRule::I5, left));
     }
     Ok(priority)
+}
+
+fn is_activation(own: Mask, number: u8) -> bool
+    ensures { result ≡ is_activation own.0 number }
+{
+    if own.0 == 0 { number > 0 } else { number == 1 }
+}
+
+/// How many activations a task with these events takes at a time.
+#[tactic(auto, unfolding(crate::specs::Reading::further_byte_at, crate::specs::Reading::tested_byte_at))]
+fn activation(reader: &mut Reader, version: Version, own: Mask) -> Result<u8, ReadError>
+    ensures { Gives (λ x. x) result reader.new (further_byte_at version 1 (is_activation own.0) reader.old) }
+{
+    match version {
+        Version::One => Ok(1),
+        Version::Two => {
+            let left = reader.left();
+            let number = reader.byte()?;
+            if !is_activation(own, number) {
+                return Err(fault(ImageRule::I3, left));
+            }
+            Ok(number)
+        }
+    }
+}
+
+fn is_internal_number(resources: u8, number: u8) -> bool
+    ensures { result ≡ is_internal_number resources number }
+{
+    number == 0xff || number < resources
+}
+
+/// The number of the INTERNAL resource that a task names, one of so many resources, or 0xff.
+#[tactic(auto, unfolding(crate::specs::Reading::further_byte_at, crate::specs::Reading::tested_byte_at))]
+fn internal_number(reader: &mut Reader, version: Version, resources: u8) -> Result<u8, ReadError>
+    ensures { Gives (λ x. x) result reader.new (further_byte_at version 0xff (is_internal_number resources) reader.old) }
+{
+    match version {
+        Version::One => Ok(0xff),
+        Version::Two => {
+            let left = reader.left();
+            let number = reader.byte()?;
+            if !is_internal_number(resources, number) {
+                return Err(fault(ImageRule::I3, left));
+            }
+            Ok(number)
+        }
+    }
+}
+
+fn internal_of(number: u8) -> Option<ResNo>
+    ensures { result ≡ internal_of_number number }
+{
+    if number == 0xff {
+        None
+    } else {
+        Some(ResNo(number))
+    }
 }
 
 fn schedule_of(number: u8) -> Schedule
@@ -65,13 +134,13 @@ fn task(
     ensures { Gives (λ x. x) result reader.new (task_at header earlier.now reader.old) }
 {
     let name = reader.name(alloc, earlier)?;
-    let priority = priority(reader, earlier)?;
+    let priority = priority(reader, header.version, earlier)?;
     let schedule = schedule(reader)?;
     let own = Mask(reader.number_64()?);
     let autostart = reader.modes(header.modes)?;
     let code = range(reader, header.blocks, earlier, &[], &[])?;
-    let _activation = reader.unused_byte(header.version, 1)?;
-    let _internal = reader.unused_byte(header.version, 0xff)?;
+    let activation = activation(reader, header.version, own)?;
+    let internal = internal_number(reader, header.version, header.resources)?;
     Ok(Task {
         name,
         priority,
@@ -80,8 +149,8 @@ fn task(
         autostart,
         first: code.first,
         count: code.count,
-        activation: 1,
-        internal: None,
+        activation,
+        internal: internal_of(internal),
     })
 }
 
@@ -156,23 +225,75 @@ fn counter(
     })
 }
 
+fn is_other(number: usize, internal: Option<ResNo>) -> bool
+    ensures { result ≡ is_other number internal }
+{
+    match internal {
+        None => true,
+        Some(resource) => resource.index() != number,
+    }
+}
+
+fn names_other(task: &Task, number: usize) -> bool
+    ensures { result ≡ is_other number task.now.internal }
+{
+    is_other(number, task.internal)
+}
+
+fn name_others(tasks: &[Task], number: usize) -> bool
+    ensures { result ≡ list_all (λ x. is_other number x.internal) tasks.now }
+{
+    tasks.iter().all(|x| names_other(x, number))
+}
+
+/// Whether the resource of this number may have the property.
+fn is_property(tasks: &[Task], number: usize, internal: bool) -> bool
+    ensures { result ≡ is_property tasks.now number internal }
+{
+    internal || name_others(tasks, number)
+}
+
+/// Whether the resource of this number is INTERNAL.
+#[tactic(auto, unfolding(crate::specs::TableReading::property_at))]
+fn property(
+    reader: &mut Reader,
+    version: Version,
+    tasks: &[Task],
+    number: usize,
+) -> Result<bool, ReadError>
+    ensures { Gives (λ x. x) result reader.new (property_at version tasks.now number reader.old) }
+{
+    match version {
+        Version::One => Ok(false),
+        Version::Two => {
+            let left = reader.left();
+            let internal = reader.flag()?;
+            if !is_property(tasks, number, internal) {
+                return Err(fault(ImageRule::I5, left));
+            }
+            Ok(internal)
+        }
+    }
+}
+
 #[tactic(auto, unfolding(crate::specs::TableReading::resource_at))]
 fn resource(
     alloc: Global,
     reader: &mut Reader,
     version: Version,
+    tasks: &[Task],
     earlier: &[Resource],
 ) -> Result<Resource, ReadError>
-    ensures { Gives (λ x. x) result reader.new (resource_at version earlier.now reader.old) }
+    ensures { Gives (λ x. x) result reader.new (resource_at version tasks.now earlier.now reader.old) }
 {
     let name = reader.name(alloc, earlier)?;
     let ceiling = at_most(reader, GREATEST_CEILING)?;
-    let _property = reader.unused_byte(version, 0)?;
+    let internal = property(reader, version, tasks, earlier.len())?;
     let _interrupt_ceiling = reader.unused_16(version, 0)?;
     Ok(Resource {
         name,
         ceiling,
-        internal: false,
+        internal,
         interrupt_ceiling: 0,
     })
 }
@@ -245,12 +366,13 @@ fn read_resources(
     alloc: Global,
     reader: &mut Reader,
     header: Header,
+    tasks: &[Task],
 ) -> Result<Seq<Resource>, ReadError>
-    ensures { Gives (λ x. x) result reader.new (entries_at (resource_at header.version) [] header.resources reader.old) }
+    ensures { Gives (λ x. x) result reader.new (entries_at (resource_at header.version tasks.now) [] header.resources reader.old) }
 {
     let mut resources = Seq::new(alloc);
     for _ in 0..header.resources {
-        let resource = resource(alloc, reader, header.version, resources.as_slice())?;
+        let resource = resource(alloc, reader, header.version, tasks, resources.as_slice())?;
         resources.push(resource)?;
     }
     Ok(resources)
@@ -282,7 +404,7 @@ pub(crate) fn tables(
     let isrs = read_isrs(alloc, reader, header, tasks.as_slice())?;
     let counters = read_counters(alloc, reader, header, tasks.as_slice(), isrs.as_slice())?;
     let alarms = read_alarms(alloc, reader, header, counters.as_slice())?;
-    let resources = read_resources(alloc, reader, header)?;
+    let resources = read_resources(alloc, reader, header, tasks.as_slice())?;
     let modes = read_modes(alloc, reader, header)?;
     Ok(Tables {
         tasks,

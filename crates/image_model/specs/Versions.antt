@@ -1,7 +1,7 @@
 -- What the versions of the image format ask of an image, beside the conditions of its application and of its sites.
 use Rattle.std.specs.{Prelude.{⊤, List, All, Option, Some, None}, Coded.{Unit-prop}}
 use Rattle.std.proofs.Props.{props}
-use Rattle.osek_standard.specs.{declared.app.App.{App}, Versions.{FitsVersion1, FitsVersion1-prop}}
+use Rattle.osek_standard.specs.{declared.app.App.{App}, Apps.{tables}, Versions.{FitsVersion1, FitsVersion1-prop}}
 use Rattle.image_model.specs.declared.image.Version.{Version}
 use Rattle.image_model.specs.declared.image.Version.TheVariants as version
 use Rattle.image_model.specs.declared.site.{Known.{Known}, Site.{Site}}
@@ -16,18 +16,16 @@ abbrev pub SaysNothing : Option Site → Type 0
 SaysNothing None = ⊤
 SaysNothing (Some x) = IsUnknown x.known
 
--- what both versions ask
-pub record FitsBothVersions (app : App) : Type 0 where
-  pub priorities : FitsVersion1 app.tasks
-
--- what version 1 asks alone: it has no place for a known status
-pub record FitsVersion1Alone (sites : List (Option Site)) : Type 0 where
+-- what version 1 asks alone: distinct priorities, for it has no place for further activations, INTERNAL resources and
+-- known statuses
+pub record FitsVersion1Alone (app : App) (sites : List (Option Site)) : Type 0 where
+  pub tables : FitsVersion1 (tables app)
   pub unknown : All SaysNothing sites
 
 -- what a version asks that the other doesn't
-abbrev pub FitsAlone : Version → List (Option Site) → Type 0
-FitsAlone version.One sites = FitsVersion1Alone sites
-FitsAlone version.Two sites = ⊤
+abbrev pub FitsAlone : Version → App → List (Option Site) → Type 0
+FitsAlone version.One app sites = FitsVersion1Alone app sites
+FitsAlone version.Two app sites = ⊤
 
 pub IsUnknown-prop : (x : Known) → IsProp (IsUnknown x)
 IsUnknown-prop known.Any = Unit-prop
@@ -37,12 +35,9 @@ pub SaysNothing-prop : (x : Option Site) → IsProp (SaysNothing x)
 SaysNothing-prop None = Unit-prop
 SaysNothing-prop (Some x) = IsUnknown-prop x.known
 
-pub FitsBothVersions-prop : (app : App) → IsProp (FitsBothVersions app)
-FitsBothVersions-prop app = hlevel (props, FitsVersion1-prop)
+pub FitsVersion1Alone-prop : (app : App) (sites : List (Option Site)) → IsProp (FitsVersion1Alone app sites)
+FitsVersion1Alone-prop app sites = hlevel (props, FitsVersion1-prop, SaysNothing-prop)
 
-pub FitsVersion1Alone-prop : (sites : List (Option Site)) → IsProp (FitsVersion1Alone sites)
-FitsVersion1Alone-prop sites = hlevel (props, SaysNothing-prop)
-
-pub FitsAlone-prop : (x : Version) (sites : List (Option Site)) → IsProp (FitsAlone x sites)
-FitsAlone-prop version.One sites = FitsVersion1Alone-prop sites
-FitsAlone-prop version.Two sites = Unit-prop
+pub FitsAlone-prop : (x : Version) (app : App) (sites : List (Option Site)) → IsProp (FitsAlone x app sites)
+FitsAlone-prop version.One app sites = FitsVersion1Alone-prop app sites
+FitsAlone-prop version.Two app sites = Unit-prop

@@ -1,6 +1,6 @@
 //! The sites of an image.
 ghost use Rattle.std.specs.Prelude.{◌≡◌, ◌<◌, ◌↔◌, length, not, IsTrue, None, IfOk};
-ghost use Rattle.osek_standard.specs.{Apps.{is_site as is_site_of}, Versions.{FitsVersion1}};
+ghost use Rattle.osek_standard.specs.Apps.{is_site as is_site_of};
 ghost use Rattle.image_model.specs.{Sites.{general_site as general_site_if}, ImageStep.{site_at as site_of, form_at}, ImageTrace.{AreGeneral}};
 ghost use Rattle.image_model.specs.declared.image.Version.TheVariants as version;
 
@@ -45,7 +45,6 @@ fn general_site(app: &App, block: BlockNo) -> Option<Site>
 
 /// The image of an application, of version 2, in which each site has the general form and nothing is known of its status.
 pub fn general(alloc: Global, app: App) -> Result<Image, Memory>
-    requires { FitsVersion1 app.tasks }
     ensures version { IfOk result (λ i. i.version ≡ version.Two) }
     ensures app { IfOk result (λ i. i.app ≡ app) }
     ensures forms { IfOk result (λ i. AreGeneral i.sites) }

@@ -1,5 +1,5 @@
 //! Images.
-ghost use Rattle.image_model.specs.{Sites.{AreSites, AreSites-prop}, Versions.{FitsBothVersions, FitsBothVersions-prop, FitsAlone, FitsAlone-prop}};
+ghost use Rattle.image_model.specs.{Sites.{AreSites, AreSites-prop}, Versions.{FitsAlone, FitsAlone-prop}};
 
 use crate::site::Site;
 use osek_standard::App;
@@ -8,9 +8,9 @@ use osek_values::Seq;
 /// The versions of the image format.
 #[derive(Clone, Copy, PartialEq, Eq, Debug)]
 pub enum Version {
-    /// It has no place for known statuses.
+    /// It has no place for known statuses, further activations and INTERNAL resources, and wants distinct priorities.
     One,
-    /// It has one for the known status of each site.
+    /// It has a place for each of these, and tasks may share a priority.
     Two,
 }
 
@@ -21,7 +21,6 @@ pub struct Image {
     pub version: Version,
     pub app: App,
     pub sites: Seq<Option<Site>>,
-    pub ghost both_versions: { FitsBothVersions app } by { FitsBothVersions-prop app },
-    pub ghost its_version: { FitsAlone version sites } by { FitsAlone-prop version sites },
+    pub ghost its_version: { FitsAlone version app sites } by { FitsAlone-prop version app sites },
     pub ghost valid: { AreSites app sites } by { AreSites-prop app sites },
 }

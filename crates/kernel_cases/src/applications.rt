@@ -1,22 +1,15 @@
 //! The applications of the tests, each read from its texts.
-ghost use Rattle.std.specs.Prelude.{IfOk};
-ghost use Rattle.osek_standard.specs.Versions.{FitsVersion1};
-
 use front_end::{TextError, read_app, read_system};
 use osek_standard::App;
 use std::alloc::Global;
 
-fn read(alloc: Global, oil: &[u8], code: &[u8]) -> Result<App, TextError>
-    ensures { IfOk result (λ app. FitsVersion1 app.tasks) }
-{
+fn read(alloc: Global, oil: &[u8], code: &[u8]) -> Result<App, TextError> {
     let system = read_system(alloc, oil)?;
     read_app(alloc, system, code)
 }
 
 /// T1 activates T2 of higher priority, and both end.
-pub fn activation(alloc: Global) -> Result<App, TextError>
-    ensures { IfOk result (λ app. FitsVersion1 app.tasks) }
-{
+pub fn activation(alloc: Global) -> Result<App, TextError> {
     read(
         alloc,
         b"CPU c { OS os; TASK T1 { PRIORITY = 1; AUTOSTART = TRUE; }; TASK T2 { PRIORITY = 2; }; };",

@@ -219,7 +219,7 @@ fn a_byte_after_the_end(rt: HostRuntime) {
 const HOSTILE: [(&str, usize, u8, ImageRule, usize); 20] = [
     ("no magic", 0, 0x4e, ImageRule::I2, 0),
     ("another version", 7, 3, ImageRule::I2, 0),
-    ("version 2 without its fields", 7, 2, ImageRule::I3, 36),
+    ("version 2 without its fields", 7, 2, ImageRule::I3, 37),
     ("a sixth hook", 8, 32, ImageRule::I3, 8),
     ("seventeen tasks", 9, 17, ImageRule::I3, 9),
     ("no mode", 14, 0, ImageRule::I3, 14),

@@ -11,6 +11,8 @@ mod event_feeds;
 #[cfg(test)]
 mod files_of_the_system;
 #[cfg(test)]
+mod full_lines;
+#[cfg(test)]
 mod image_bytes;
 #[cfg(test)]
 mod kernel_runs;

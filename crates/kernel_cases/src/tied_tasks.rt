@@ -1,5 +1,5 @@
-//! Tasks that share a current priority: a preempted task is the first of them, whatever its number. As yet only an image
-//! made by hand has such tasks: here a resource has the base priority of another task as its ceiling.
+//! Tasks that share a current priority: a preempted task is the first of them, whatever its number. In this image, made by
+//! hand, a resource has the base priority of another task as its ceiling.
 ghost use Rattle.std.specs.Prelude.{◌≡◌, ◌<◌};
 
 use image_codec::{Image, decode};

@@ -1,7 +1,8 @@
 //! Worked images of version 2 as bytes, and what becomes of one of version 1.
 use crate::image_bytes::{ONE_TASK, has_forms, is_fault, reads, spells};
 use image_codec::{AlreadyNew, Form, Image, ImageRule, Known, Version, decode, upgrade};
-use osek_values::{Status, TaskNo};
+use osek_standard::Task;
+use osek_values::{ResNo, Status, TaskNo};
 use std::alloc::Global;
 use std::test::*;
 
@@ -165,11 +166,23 @@ const HOSTILE_2: [(&str, usize, u8, ImageRule, usize); 10] = [
         ImageRule::I4,
         36,
     ),
-    ("two activations", 36, 2, ImageRule::I3, 36),
-    ("an internal resource", 58, 0, ImageRule::I3, 58),
-    ("a property", 77, 1, ImageRule::I3, 77),
+    ("no activation", 36, 0, ImageRule::I3, 36),
+    (
+        "an INTERNAL resource beyond the resources",
+        58,
+        1,
+        ImageRule::I3,
+        58,
+    ),
+    (
+        "a task whose INTERNAL resource isn't INTERNAL",
+        58,
+        0,
+        ImageRule::I5,
+        77,
+    ),
+    ("a property of number 2", 77, 2, ImageRule::I3, 77),
     ("an interrupt ceiling", 79, 1, ImageRule::I3, 78),
-    ("one priority twice", 42, 1, ImageRule::I5, 41),
     ("a form above General", 106, 4, ImageRule::I3, 106),
     ("a status of number 10", 108, 10, ImageRule::I3, 108),
     ("a status of number fe", 148, 0xfe, ImageRule::I3, 148),
@@ -197,4 +210,50 @@ fn first_wrong_byte(alloc: Global) -> Option<&'static str> {
 #[test]
 fn hostile_bytes_in_version_2(rt: HostRuntime) {
     assert_eq!(rt; first_wrong_byte(rt.alloc()), None);
+}
+
+/// Tasks of one priority, of which the first takes two activations and the second is inside RES_SCHEDULER.
+fn of_one_priority() -> [u8; 149] {
+    let mut bytes = TWO_TASKS_2;
+    bytes[36] = 2;
+    bytes[42] = 1;
+    bytes[58] = 0;
+    bytes[77] = 1;
+    bytes
+}
+
+fn are_of_one_priority(tasks: &[Task]) -> bool {
+    tasks.len() == 2
+        && tasks[0].priority == tasks[1].priority
+        && tasks[0].activation == 2
+        && tasks[0].internal.is_none()
+        && tasks[1].activation == 1
+        && tasks[1].internal == Some(ResNo(0))
+}
+
+fn is_of_one_priority(image: &Image) -> bool {
+    are_of_one_priority(image.app.tasks.as_slice())
+}
+
+#[test]
+fn shared_priorities_activations_and_an_internal_resource(rt: HostRuntime) {
+    assert!(rt; reads(rt.alloc(), &of_one_priority(), is_of_one_priority));
+}
+
+#[test]
+fn several_activations_of_an_extended_task(rt: HostRuntime) {
+    let mut bytes = TWO_TASKS_2;
+    bytes[30] = 1;
+    bytes[36] = 2;
+    assert!(rt; is_fault(rt.alloc(), &bytes, ImageRule::I3, 36));
+}
+
+// The first block gives RES_SCHEDULER back, which is INTERNAL.
+#[test]
+fn a_call_on_an_internal_resource(rt: HostRuntime) {
+    let mut bytes = TWO_TASKS_2;
+    bytes[77] = 1;
+    bytes[97] = 8;
+    bytes[103] = 0;
+    assert!(rt; is_fault(rt.alloc(), &bytes, ImageRule::I5, 103));
 }

@@ -7,14 +7,18 @@ use Rattle.oil_tree.specs.declared.tree.{Attr.{Attr}, Object.{Object}, Value.{Va
 use Rattle.oil_model.specs.declared.table.{Scope.{Scope}, Presence.{Presence, TheVariants.{Required}}, Entry.{Entry}}
 use Rattle.oil_model.specs.declared.table.Scope.TheVariants as scope
 use Rattle.oil_model.specs.{declared.domain.Domain.TheVariants.{Number}, Table.{scope_of, entry_of}, Lists.{found_at, found_of, found_in, found_below}}
-use Rattle.oil_model.specs.LookUp.{number, number_at, number_or, first_named, attr_line}
-use Rattle.oil_model.specs.Objects.{is_kind, objects_of, is_called, attrs_of, attrs_named, priority, maximum, minimum, alarm_time, cycle_time, start, line_at}
-use Rattle.oil_model.specs.Rules.{forbids, is_wrong, wrong_in, is_reversed, is_off_cycle, late_times_of, late_times, counter_of}
+use Rattle.oil_model.specs.LookUp.{has, number, number_at, number_or, first_named, attr_line}
+use Rattle.oil_model.specs.Objects.{is_kind, objects_of, is_called, attrs_of, attrs_named, priority, activation, maximum, minimum, alarm_time, cycle_time, start, line_at}
+use Rattle.oil_model.specs.Rules.{forbids, is_wrong, wrong_in, is_activation, is_wrongly_activated, wrong_activations, is_reversed, is_off_cycle, late_times_of, late_times, counter_of}
 use Rattle.oil_model.proofs.Clean.{left_empty, right_empty, map_empty, mark_empty, none_pass, each_empty, all_filtered, all_weaker}
 
 pub true_or_false : (b : Bool) → (b ≡ true) ⊎ (b ≡ false)
 true_or_false true = inl refl
 true_or_false false = inr refl
+
+pub not_false : (b : Bool) → not b ≡ false → b ≡ true
+not_false true e = refl
+not_false false e = absurd cc
 
 -- what is found in the lists of an object, by its scope
 pub own_found : (found : Scope → ℕ → List Attr → List ℕ) (s : Scope) (o : Object) → scope_of o.kind ≡ Some s → found_of found o ≡ [] → (found s o.line (attr_list o.attrs) ≡ []) × AllByRecursion (λ (a : Attr). found_below found s a ≡ []) (attr_list o.attrs)
@@ -64,6 +68,23 @@ priorities objects e =
     let none_below : 0 ≤ 0 = omega arith in
     let few : 0 ≤ 65535 = omega arith in
     all_weaker (λ (o : Object). priority o ≤ 65535) (λ (o : Object). NoneWrong scope.Task (attr_list o.attrs)) (objects_of (codes "TASK") objects) (λ o h. (number_in_range scope.Task (codes "PRIORITY") 0 65535 0 Required (attr_list o.attrs) refl none_below few h).1) (none_wrong_of (codes "TASK") scope.Task objects refl e)
+
+-- how often a task is activated
+pub activated : (objects : List Object) → wrong_activations objects ≡ [] → AllByRecursion (λ (o : Object). is_activation (has (codes "EVENT") (attr_list o.attrs)) (activation o) ≡ true) (objects_of (codes "TASK") objects)
+activated objects e =
+    all_weaker (λ (o : Object). is_activation (has (codes "EVENT") (attr_list o.attrs)) (activation o) ≡ true) (λ (o : Object). is_wrongly_activated o ≡ false) (objects_of (codes "TASK") objects) (λ o h. not_false _ h)
+    (none_pass is_wrongly_activated (objects_of (codes "TASK") objects) (map_empty (line_at (codes "ACTIVATION")) (filter is_wrongly_activated (objects_of (codes "TASK") objects)) e))
+
+pub in_activations : (extended : Bool) (n : ℕ) → is_activation extended n ≡ true → (1 ≤ n) × (n ≤ 255)
+in_activations true n e = (grind (arith, nat_tests), grind (arith, nat_tests))
+in_activations false n e = (grind (arith, nat_tests), grind (arith, nat_tests))
+
+pub once : (n : ℕ) → is_activation true n ≡ true → n ≡ 1
+once n e = grind (arith, nat_tests)
+
+pub few_activations : (objects : List Object) → wrong_activations objects ≡ [] → AllByRecursion (λ (o : Object). activation o ≤ 255) (objects_of (codes "TASK") objects)
+few_activations objects e =
+    all_weaker (λ (o : Object). activation o ≤ 255) (λ (o : Object). is_activation (has (codes "EVENT") (attr_list o.attrs)) (activation o) ≡ true) (objects_of (codes "TASK") objects) (λ o h. (in_activations (has (codes "EVENT") (attr_list o.attrs)) (activation o) h).1) (activated objects e)
 
 abbrev pub IsMaximum : List Attr → Type 0
 IsMaximum attrs = (1 ≤ maximum attrs) × (maximum attrs ≤ 4294967295)

@@ -1,21 +1,21 @@
 -- The system of a tree without a fault can be linked.
-use Rattle.std.proofs.Common.{◌≡◌, ℕ, zero, suc, ◌+◌, ◌<◌, ◌≤◌, ◌^◌, List, [], ◌∷◌, ◌++◌, length, map, Bool, true, false, refl, sym, ap, ◌∙◌, subst, arith, rules, IsTrue}
-use Rattle.std.specs.Prelude.{Some, if◌then◌else◌, cond, not, ◌&&◌, ◌||◌, codes, filter, nat_eq, nat_le, nat_lt, ◌==◌, slice_index_or, All}
+use Rattle.std.proofs.Common.{inl, inr, ◌≡◌, ℕ, zero, suc, ◌+◌, ◌<◌, ◌≤◌, ◌^◌, List, [], ◌∷◌, ◌++◌, length, map, Bool, true, false, refl, sym, ap, ◌∙◌, subst, arith, rules, IsTrue}
+use Rattle.std.specs.Prelude.{Option, Some, None, if◌then◌else◌, cond, not, ◌&&◌, ◌||◌, codes, filter, nat_le, nat_lt, ◌==◌, slice_index_or, bit_or, All}
 use Rattle.std.specs.{List.{AllByRecursion, IsDistinct, list_any}, Str.{bytes_eq}}
-use Rattle.std.proofs.lemmas.{Bool.Decides.{nat_tests}, Cmp.{nat_list_eq_equiv, nat_eq_equiv}, Map.Keys.{IsDistinct-push, IsDistinct-cons, IsDistinct-head, IsDistinct-tail}}
-use Rattle.osek_values.specs.{Names.{is_name, AreNames}, declared.refusal.OilRule.TheVariants.{O2, O4, O6, O7, O8, O11, O12, O13, O14}}
+use Rattle.std.proofs.lemmas.{Bool.Decides.{nat_tests}, Cmp.{nat_list_eq_equiv}, Map.Keys.{IsDistinct-push, IsDistinct-cons, IsDistinct-head, IsDistinct-tail}}
+use Rattle.osek_values.specs.{Names.{is_name, AreNames}, Numbers.{res_no}, declared.{numbers.ResNo.{ResNo}, refusal.OilRule.TheVariants.{O2, O4, O6, O7, O9, O11, O12, O13, O14}}}
 use Rattle.oil_system.specs.declared.{objects.{Alarm.{Alarm}, Resource.{Resource}}, system.{TaskObject.{TaskObject}, CounterObject.{CounterObject}, EventObject.{EventObject}}}
-use Rattle.oil_model.specs.{declared.objects.Category.TheVariants.{One, Two}, Linkable.{no_counter_object, is_cycle_of_object, IsActionAmong, IsAlarmAmong, IsLinkable}}
+use Rattle.oil_model.specs.{declared.objects.Category.TheVariants.{One, Two}, Linkable.{no_counter_object, no_resource_object, is_cycle_of_object, IsActionAmong, IsAlarmAmong, IsInternalAmong, IsLinkable}}
 use Rattle.oil_tree.specs.{AttrLists.{attr_list}, declared.tree.{Attr.{Attr}, Object.{Object}, Tree.{Tree}}}
 use Rattle.oil_model.specs.declared.table.Scope.TheVariants as scope
-use Rattle.oil_model.specs.{Table.{scope_of}, Lists.{found_of, found_in}, LookUp.{number, says, word, inner}}
-use Rattle.oil_model.specs.Objects.{is_kind, is_called, objects_of, name_of, attrs_of, has_scheduler, is_other_mode, is_ordinary, is_isr, priority, maximum, minimum, alarm_time, cycle_time, start, explicit_bits, mask_of, used_after, line_at, object_line}
-use Rattle.oil_model.specs.Rules.{kinds, repeated, repeated_names, all_repeated_names, has_same_name, has_same_priority, shared_priorities, missing_in, wrong_in, dangling_in, is_callback, callbacks, empty_masks_from, empty_masks, beyond_limits, late_times, is_off_cycle, counter_of, resource_limit}
+use Rattle.oil_model.specs.{Table.{scope_of}, Lists.{found_of, found_in}, LookUp.{is_named, has, number, says, word_of, word, inner}}
+use Rattle.oil_model.specs.Objects.{is_kind, is_called, objects_of, name_of, attrs_of, has_scheduler, is_other_mode, is_ordinary, is_isr, priority, activation, maximum, minimum, alarm_time, cycle_time, start, explicit_bits, mask_of, used_after, line_at, object_line}
+use Rattle.oil_model.specs.Rules.{kinds, repeated, repeated_names, all_repeated_names, has_same_name, is_activation, wrong_activations, missing_in, wrong_in, dangling_in, is_callback, callbacks, empty_masks_from, empty_masks, beyond_limits, late_times, is_off_cycle, counter_of}
 use Rattle.oil_model.specs.Faults.{HasNoFault}
-use Rattle.oil_model.specs.Systems.{modes, events_from, events, task, counter, alarm, action_in, names_of, resource, scheduler, ceiling, names_resource, system_of}
+use Rattle.oil_model.specs.Systems.{modes, events_from, events, mask_named, own_bits, internal_from, internal_by, first_of, internal, task, counter, alarm, action_in, names_of, resource, scheduler, ceiling, names_resource, resources, system_of}
 use Rattle.oil_model.proofs.Clean.{no_line, left_empty, right_empty, map_empty, mark_empty, none_pass, each_empty, all_filtered, all_weaker, all_both, true_not_false}
-use Rattle.oil_model.proofs.{Distinct.{distinct_from, distinct_kept, all_kept}, Facts.{own_found, kind_scope, priorities, IsMaximum, maxima, minima, IsInTime, times}}
-use Rattle.oil_model.proofs.{WithinLimits.{IsWithinLimits, within_limits, few_modes, length-names}, Referring.{RefersToDeclared, IsSoundAlarm, sound_list, sound_alarm}}
+use Rattle.oil_model.proofs.{Distinct.{distinct_from, distinct_kept, all_kept}, Facts.{true_or_false, own_found, kind_scope, priorities, activated, in_activations, once, IsMaximum, maxima, minima, IsInTime, times}}
+use Rattle.oil_model.proofs.{WithinLimits.{IsWithinLimits, within_limits, few_modes, few_resources, length-map, length-names}, Referring.{RefersToDeclared, IsSoundAlarm, sound_list, sound_alarm}}
 use Rattle.oil_model.proofs.{Bits.{known_hooks, autostart_below, no_start, ceiling_small}, Numbers.{IsAt, at_number, not_zero, mask_some}}
 
 none_distinct : {K : Type 0} (eq : K → K → Bool) → IsDistinct eq []
@@ -39,13 +39,13 @@ by_recursion : {X : Type 0} (P : X → Type 0) (xs : List X) → All P xs → Al
 by_recursion P [] h = tt
 by_recursion P (x ∷ xs) h = let some : 0 < length (x ∷ xs) = omega arith in (h 0 x some, by_recursion P xs (λ k d lt. let more : suc k < length (x ∷ xs) = omega (arith, lt) in h (suc k) d more))
 
-length-map : {X Y : Type 0} (f : X → Y) (xs : List X) → length (map f xs) ≡ length xs
-length-map f [] = refl
-length-map f (x ∷ xs) = let h = length-map f xs in omega (arith, h)
-
 map-map : {X Y Z : Type 0} (g : Y → Z) (f : X → Y) (xs : List X) → map g (map f xs) ≡ map (λ (x : X). g (f x)) xs
 map-map g f [] = refl
 map-map {X} {Y} {Z} g f (x ∷ xs) = ap (λ (zs : List Z). g (f x) ∷ zs) (map-map g f xs)
+
+and_first : (a b : Bool) → (a && b) ≡ true → IsTrue a
+and_first true b e = refl
+and_first false b e = absurd (true_not_false (sym e))
 
 and_second : (a b : Bool) → (a && b) ≡ true → b ≡ true
 and_second true b e = e
@@ -132,14 +132,6 @@ with_scheduler false tasks others named distinct apart =
     let names : map resource_name (map (resource tasks) others ++ []) ≡ map name_of others = ap (map resource_name) (append-none (map (resource tasks) others)) ∙ map-map resource_name (resource tasks) others in
     subst AreNames (sym names) (are_names others named distinct)
 
-length-append : (xs ys : List Resource) → length (xs ++ ys) ≡ length xs + length ys
-length-append [] ys = omega arith
-length-append (x ∷ xs) ys = let h = length-append xs ys in omega (arith, h)
-
-few_resources : (exists : Bool) (tasks others : List Object) → length others ≤ resource_limit exists → length (map (resource tasks) others ++ (if exists then scheduler tasks ∷ [] else [])) ≤ 8
-few_resources true tasks others le = let a = length-append (map (resource tasks) others) (scheduler tasks ∷ []) in let b = length-map (resource tasks) others in omega (arith, a, b, le)
-few_resources false tasks others le = let a = length-append (map (resource tasks) others) [] in let b = length-map (resource tasks) others in omega (arith, a, b, le)
-
 all-append : {X : Type 0} (P : X → Type 0) (xs ys : List X) → AllByRecursion P xs → AllByRecursion P ys → AllByRecursion P (xs ++ ys)
 all-append P [] ys h k = k
 all-append P (x ∷ xs) ys h k = (h.0, all-append P xs ys h.1 k)
@@ -221,19 +213,19 @@ module _ (objects : List Object) (limits : IsWithinLimits objects) where
   abbrev counters_of : List Object
   counters_of = objects_of (codes "COUNTER") objects
 
-  action_among : (sets : Bool) (attrs : List Attr) → empty_masks objects ≡ [] → RefersToDeclared objects sets attrs → IsActionAmong (length (map (task (modes objects) (events objects)) tasks_of)) (action_in (names_of (codes "TASK") objects) (events objects) sets attrs)
+  action_among : (sets : Bool) (attrs : List Attr) → empty_masks objects ≡ [] → RefersToDeclared objects sets attrs → IsActionAmong (length (map (task (modes objects) (events objects) (resources objects)) tasks_of)) (action_in (names_of (codes "TASK") objects) (events objects) sets attrs)
   action_among true attrs masks refers =
-      let at = at_number (task (modes objects) (events objects)) (word (codes "TASK") attrs) tasks_of refers.task in
+      let at = at_number (task (modes objects) (events objects) (resources objects)) (word (codes "TASK") attrs) tasks_of refers.task in
       let lt = at.below in
-      let len = length-map (task (modes objects) (events objects)) tasks_of in
+      let len = length-map (task (modes objects) (events objects) (resources objects)) tasks_of in
       (omega (arith, lt, len), mask_some (word (codes "EVENT") attrs) (explicit_bits 0 (objects_of (codes "EVENT") objects)) (objects_of (codes "EVENT") objects) masks (refers.event refl))
   action_among false attrs masks refers =
-      let at = at_number (task (modes objects) (events objects)) (word (codes "TASK") attrs) tasks_of refers.task in
+      let at = at_number (task (modes objects) (events objects) (resources objects)) (word (codes "TASK") attrs) tasks_of refers.task in
       let lt = at.below in
-      let len = length-map (task (modes objects) (events objects)) tasks_of in
+      let len = length-map (task (modes objects) (events objects) (resources objects)) tasks_of in
       omega (arith, lt, len)
 
-  alarm_among : (o : Object) → empty_masks objects ≡ [] → IsSoundAlarm objects (attr_list o.attrs) → IsInTime (counter_of objects o) (attr_list o.attrs) → IsAlarmAmong (length (map (task (modes objects) (events objects)) tasks_of)) (map counter counters_of) (alarm (names_of (codes "COUNTER") objects) (names_of (codes "TASK") objects) (modes objects) (events objects) o)
+  alarm_among : (o : Object) → empty_masks objects ≡ [] → IsSoundAlarm objects (attr_list o.attrs) → IsInTime (counter_of objects o) (attr_list o.attrs) → IsAlarmAmong (length (map (task (modes objects) (events objects) (resources objects)) tasks_of)) (map counter counters_of) (alarm (names_of (codes "COUNTER") objects) (names_of (codes "TASK") objects) (modes objects) (events objects) o)
   alarm_among o masks sound in_time =
       let attrs : List Attr = attr_list o.attrs in
       let at : IsAt counter (word (codes "COUNTER") attrs) counters_of = at_number counter (word (codes "COUNTER") attrs) counters_of sound.counter in
@@ -249,6 +241,62 @@ module _ (objects : List Object) (limits : IsWithinLimits objects) where
         time = subst (λ (c : CounterObject). alarm_time (start attrs) ≤ c.max) entry late;
         cycle = subst (λ (c : CounterObject). IsTrue (is_cycle_of_object c (cycle_time (start attrs)))) entry (cycle_allowed (minimum (attr_list at.object.attrs)) (maximum (attr_list at.object.attrs)) (cycle_time (start attrs)) off);
       }
+
+-- the activations of a task are allowed
+abbrev IsActivated : Object → Type 0
+IsActivated o = is_activation (has (codes "EVENT") (attr_list o.attrs)) (activation o) ≡ true
+
+or_false : (a b : Bool) → (a || b) ≡ false → (a ≡ false) × (b ≡ false)
+or_false true b e = absurd (true_not_false e)
+or_false false b e = (refl, e)
+
+-- a task that names no event has no event bits
+no_own : (bits : ℕ) (found : List EventObject) (attrs : List Attr) → has (codes "EVENT") attrs ≡ false → own_bits bits found attrs ≡ bits
+no_own bits found [] h = refl
+no_own bits found (a ∷ attrs) h =
+    let none = or_false (is_named (codes "EVENT") a) (has (codes "EVENT") attrs) h in
+    (λ i. own_bits (if none.0 i then bit_or bits (mask_named (word_of a.value) found) else bits) found attrs) ∙ no_own bits found attrs none.1
+
+extended_once : (found : List EventObject) (attrs : List Attr) (n : ℕ) → is_activation (has (codes "EVENT") attrs) n ≡ true → 0 < own_bits 0 found attrs → n ≡ 1
+extended_once found attrs n h some =
+    elim (true_or_false (has (codes "EVENT") attrs)) [
+      | inl t ↦ once n (subst (λ (b : Bool). is_activation b n ≡ true) t h)
+      | inr f ↦ let none = no_own 0 found attrs f in absurd (omega (arith, some, none))
+    ]
+
+-- the INTERNAL resource that a task names is one of the resources
+module _ (resources : List Resource) where
+  -- a list goes on from number k
+  abbrev GoesOn : ℕ → List Resource → Type 0
+  GoesOn k rs = (k + length rs ≡ length resources) × ((i : ℕ) → slice_index_or rs i no_resource_object ≡ slice_index_or resources (k + i) no_resource_object)
+
+  found_or_later : (b : Bool) (k : ℕ) (later : Option ResNo) → (b ≡ true → IsInternalAmong resources (Some (res_no k))) → IsInternalAmong resources later → IsInternalAmong resources (if b then Some (res_no k) else later)
+  found_or_later true k later h l = h refl
+  found_or_later false k later h l = l
+
+  from_among : (k : ℕ) (n : List ℕ) (rs : List Resource) → GoesOn k rs → IsInternalAmong resources (internal_from k n rs)
+  from_among k n [] on = tt
+  from_among k n (r ∷ rs) on =
+      let count = on.0 in
+      let at : r ≡ slice_index_or resources k no_resource_object = let same : k + 0 ≡ k = omega arith in on.1 0 ∙ ap (λ (j : ℕ). slice_index_or resources j no_resource_object) same in
+      let rest : (i : ℕ) → slice_index_or rs i no_resource_object ≡ slice_index_or resources (k + 1 + i) no_resource_object = λ i. let same : k + suc i ≡ k + 1 + i = omega arith in on.1 (suc i) ∙ ap (λ (j : ℕ). slice_index_or resources j no_resource_object) same in
+      found_or_later (r.internal && bytes_eq r.name n) k (internal_from (k + 1) n rs)
+      (λ t. (omega (arith, count), subst (λ (x : Resource). IsTrue x.internal) at (and_first r.internal (bytes_eq r.name n) t)))
+      (from_among (k + 1) n rs (omega (arith, count), rest))
+
+  by_among : (a : Attr) → IsInternalAmong resources (internal_by resources a)
+  by_among a = elim (true_or_false (is_named (codes "RESOURCE") a)) [
+    | inl t ↦ subst (λ (b : Bool). IsInternalAmong resources (if b then internal_from 0 (word_of a.value) resources else None)) (sym t) (from_among 0 (word_of a.value) resources (omega arith, λ i. let same : i ≡ 0 + i = omega arith in ap (λ (j : ℕ). slice_index_or resources j no_resource_object) same))
+    | inr f ↦ subst (λ (b : Bool). IsInternalAmong resources (if b then internal_from 0 (word_of a.value) resources else None)) (sym f) tt
+  ]
+
+  first_among : (o later : Option ResNo) → IsInternalAmong resources o → IsInternalAmong resources later → IsInternalAmong resources (first_of o later)
+  first_among (Some r) later h l = h
+  first_among None later h l = l
+
+  internal_among : (attrs : List Attr) → IsInternalAmong resources (internal resources attrs)
+  internal_among [] = tt
+  internal_among (a ∷ attrs) = first_among (internal_by resources a) (internal resources attrs) (by_among a) (internal_among attrs)
 
 eight : (objects : List Object) → all_repeated_names objects ≡ [] → AllByRecursion (λ (kind : List ℕ). repeated_names kind objects ≡ []) kinds
 eight objects e = each_empty (λ (kind : List ℕ). repeated_names kind objects) kinds e
@@ -283,9 +331,10 @@ linkable t each h =
     let counters : List Object = objects_of (codes "COUNTER") objects in
     let alarms : List Object = objects_of (codes "ALARM") objects in
     let small = priorities objects wrong in
+    let activations : AllByRecursion IsActivated tasks = activated objects (no_line (wrong_activations objects) (h O9)) in
     let some : 0 < length (modes objects) = omega arith in
     let the_alarm : Object → Alarm = alarm (names_of (codes "COUNTER") objects) (names_of (codes "TASK") objects) (modes objects) (events objects) in
-    let the_task : Object → TaskObject = task (modes objects) (events objects) in
+    let the_task : Object → TaskObject = task (modes objects) (events objects) (resources objects) in
     let used : ℕ = explicit_bits 0 (objects_of (codes "EVENT") objects) in
     let len_tasks = length-map the_task tasks in
     let len_isrs = length-names (filter (is_isr Two) objects) in
@@ -302,7 +351,7 @@ linkable t each h =
       few_isrs = omega (arith, len_isrs, max_isrs);
       few_counters = omega (arith, len_counters, max_counters);
       few_alarms = omega (arith, len_alarms, max_alarms);
-      few_resources = few_resources (has_scheduler objects) tasks (filter (is_ordinary (has_scheduler objects)) objects) limits.resources;
+      few_resources = few_resources objects room;
       few_modes = few_modes objects room;
       some_mode = some;
       task_names = names_of_entries the_task (λ (x : TaskObject). x.name) tasks (λ o. refl) (names_by_kind objects named (codes "TASK") same.1.1.0);
@@ -314,16 +363,15 @@ linkable t each h =
       event_names = subst AreNames (sym (lookup_masks used (objects_of (codes "EVENT") objects))) (names_by_kind objects named (codes "EVENT") same.1.1.1.1.1.1.0);
       category_1_names = names_by_test objects named (codes "ISR") (has_category 1) same.1.1.1.0;
       isrs_apart = all (λ (n : List ℕ). list_any (bytes_eq n) (map name_of (filter (is_isr One) objects)) ≡ false) (map name_of (filter (is_isr Two) objects)) (isrs_apart objects (distinct_names objects named (codes "ISR") same.1.1.1.0));
-      priorities = subst (λ (ps : List ℕ). IsDistinct nat_eq ps) (sym (map-map (λ (x : TaskObject). x.priority) the_task tasks)) (distinct_from priority nat_eq nat_eq_equiv [] tasks (map_empty (line_at (codes "PRIORITY")) (repeated has_same_priority [] tasks) (no_line (shared_priorities objects) (h O8))) (none_distinct nat_eq));
+      activations = all _ _ (all_map (λ (x : TaskObject). (1 ≤ x.activation) × (x.activation ≤ 255)) the_task tasks (all_weaker (λ (o : Object). (1 ≤ activation o) × (activation o ≤ 255)) IsActivated tasks (λ o q. in_activations (has (codes "EVENT") (attr_list o.attrs)) (activation o) q) activations));
+      extended_once = all _ _ (all_map (λ (x : TaskObject). 0 < x.own.0 → x.activation ≡ 1) the_task tasks (all_weaker (λ (o : Object). 0 < own_bits 0 (events objects) (attr_list o.attrs) → activation o ≡ 1) IsActivated tasks (λ o q. extended_once (events objects) (attr_list o.attrs) (activation o) q) activations));
+      internals = all _ _ (all_map (λ (x : TaskObject). IsInternalAmong (resources objects) x.internal) the_task tasks (each_of (λ (o : Object). internal_among (resources objects) (attr_list o.attrs)) tasks));
       task_starts = all _ _ (all_map (λ (x : TaskObject). x.autostart < 2 ^ length (modes objects)) the_task tasks (each_of (λ (o : Object). autostart_below (modes objects) (attr_list o.attrs) some) tasks));
       each_counter = all _ _ (all_map (λ (x : CounterObject). (1 ≤ x.max) × (x.min_cycle ≤ x.max)) counter counters (all_weaker (λ (o : Object). (1 ≤ maximum (attr_list o.attrs)) × (minimum (attr_list o.attrs) ≤ maximum (attr_list o.attrs))) (λ (o : Object). IsMaximum (attr_list o.attrs) × (minimum (attr_list o.attrs) ≤ maximum (attr_list o.attrs))) counters (λ o q. (q.0.0, q.1)) (all_both (λ (o : Object). IsMaximum (attr_list o.attrs)) (λ (o : Object). minimum (attr_list o.attrs) ≤ maximum (attr_list o.attrs)) counters (maxima objects wrong) (minima objects late))));
       each_alarm = all _ _ (all_map (IsAlarmAmong (length (map the_task tasks)) (map counter counters)) the_alarm alarms (all_weaker (λ (o : Object). IsAlarmAmong (length (map the_task tasks)) (map counter counters) (the_alarm o)) (λ (o : Object). IsSoundAlarm objects (attr_list o.attrs) × IsInTime (counter_of objects o) (attr_list o.attrs)) alarms (λ o q. alarm_among objects limits o masks q.0 q.1) (all_both (λ (o : Object). IsSoundAlarm objects (attr_list o.attrs)) (λ (o : Object). IsInTime (counter_of objects o) (attr_list o.attrs)) alarms (sound_alarms t h) (times objects late))));
       alarm_starts = all _ _ (all_map (λ (x : Alarm). x.autostart < 2 ^ length (modes objects)) the_alarm alarms (each_of (λ (o : Object). autostart_below (modes objects) (attr_list o.attrs) some) alarms));
       no_starts = all _ _ (all_map (λ (x : Alarm). x.autostart ≡ 0 → (x.time ≡ 0) × (x.cycle ≡ 0)) the_alarm alarms (each_of (λ (o : Object). no_start (modes objects) (attr_list o.attrs) some) alarms));
       ceilings = all _ _ (ceilings_small (has_scheduler objects) tasks (filter (is_ordinary (has_scheduler objects)) objects) small);
-      takable = all _ _
-          (each_resource (λ (x : Resource). IsTrue (not x.internal)) (λ others o. refl) (λ others. refl)
-          (has_scheduler objects) tasks (filter (is_ordinary (has_scheduler objects)) objects));
       no_interrupt_ceilings = all _ _
           (each_resource (λ (x : Resource). x.interrupt_ceiling ≡ 0) (λ others o. refl) (λ others. refl)
           (has_scheduler objects) tasks (filter (is_ordinary (has_scheduler objects)) objects));

@@ -11,15 +11,11 @@ use Rattle.oil_model.specs.declared.domain.Domain.TheVariants as domain
 use Rattle.oil_model.specs.{Table.{inner_scope, entry_of, allows}, Lists.{found_within, found_below}}
 use Rattle.oil_model.specs.{LookUp.{has, first_named, word_of, word_at, word, says, inner_at, inner, attr_line}, Objects.{declares}}
 use Rattle.oil_model.specs.Rules.{lacks, missing_in, forbids, is_wrong, wrong_in, is_declared, names_nothing, is_dangling, dangling_in}
-use Rattle.oil_model.proofs.{Clean.{true_not_false, map_empty, mark_empty, none_pass, all_both}, Facts.{true_or_false, NoneWrong, none_wrong}}
+use Rattle.oil_model.proofs.{Clean.{true_not_false, map_empty, mark_empty, none_pass, all_both}, Facts.{true_or_false, not_false, NoneWrong, none_wrong}}
 
 or_second : (a b : Bool) → a ≡ false → (a || b) ≡ true → b ≡ true
 or_second true b f h = absurd (true_not_false f)
 or_second false b f h = h
-
-pub not_false : (b : Bool) → not b ≡ false → b ≡ true
-not_false true e = refl
-not_false false e = absurd cc
 
 one_there : (a : Bool) → (not a || false) ≡ false → a ≡ true
 one_there true e = refl

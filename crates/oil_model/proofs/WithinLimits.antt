@@ -1,9 +1,10 @@
 -- How many objects there are where no object is beyond its limit.
-use Rattle.std.proofs.Common.{◌≡◌, ℕ, zero, suc, ◌+◌, ◌≤◌, ⊎_elim, List, [], ◌∷◌, ◌++◌, length, map, Bool, sym, subst, arith}
+use Rattle.std.proofs.Common.{◌≡◌, ℕ, zero, suc, ◌+◌, ◌≤◌, ⊎_elim, List, [], ◌∷◌, ◌++◌, length, map, Bool, true, false, refl, sym, subst, arith}
 use Rattle.std.specs.{Prelude.{if◌then◌else◌, filter, codes, slice_get}, Str.{bytes_eq}}
 use Rattle.oil_tree.specs.declared.tree.Object.{Object}
+use Rattle.oil_system.specs.declared.objects.Resource.{Resource}
 use Rattle.oil_model.specs.{declared.objects.Category.TheVariants.{Two}, Objects.{objects_of, name_of, has_scheduler, is_other_mode, is_ordinary, is_isr}}
-use Rattle.oil_model.specs.{Rules.{found_line, first_beyond, resource_limit, beyond_limits}, Systems.{modes, number_from, number_in, names_of}}
+use Rattle.oil_model.specs.{Rules.{found_line, first_beyond, resource_limit, beyond_limits}, Systems.{modes, number_from, number_in, names_of, resource, scheduler, resources}}
 use Rattle.oil_model.proofs.{Clean.{left_empty, right_empty}, Facts.{true_or_false}}
 
 at_most : (xs : List Object) (n : ℕ) → found_line (slice_get xs n) ≡ [] → length xs ≤ n
@@ -43,6 +44,21 @@ within_limits objects e =
       resources = at_most _ (resource_limit (has_scheduler objects)) (left_empty g h e5);
       modes = at_most _ 7 (right_empty g h e5);
     }
+
+pub length-map : {X Y : Type 0} (f : X → Y) (xs : List X) → length (map f xs) ≡ length xs
+length-map f [] = refl
+length-map f (x ∷ xs) = let h = length-map f xs in omega (arith, h)
+
+length-append : (xs ys : List Resource) → length (xs ++ ys) ≡ length xs + length ys
+length-append [] ys = omega arith
+length-append (x ∷ xs) ys = let h = length-append xs ys in omega (arith, h)
+
+few_with : (exists : Bool) (tasks others : List Object) → length others ≤ resource_limit exists → length (map (resource tasks) others ++ (if exists then scheduler tasks ∷ [] else [])) ≤ 8
+few_with true tasks others le = let a = length-append (map (resource tasks) others) (scheduler tasks ∷ []) in let b = length-map (resource tasks) others in omega (arith, a, b, le)
+few_with false tasks others le = let a = length-append (map (resource tasks) others) [] in let b = length-map (resource tasks) others in omega (arith, a, b, le)
+
+pub few_resources : (objects : List Object) → beyond_limits objects ≡ [] → length (resources objects) ≤ 8
+few_resources objects e = few_with (has_scheduler objects) (objects_of (codes "TASK") objects) (filter (is_ordinary (has_scheduler objects)) objects) (within_limits objects e).resources
 
 pub length-names : (xs : List Object) → length (map name_of xs) ≡ length xs
 length-names [] = omega arith

@@ -1,6 +1,6 @@
 -- The faults of a tree, and the least of them.
 use Rattle.std.specs.Prelude.{ℕ, Option}
-use Rattle.osek_values.specs.declared.refusal.OilRule.{OilRule, TheVariants.{O1, O2, O3, O4, O5, O6, O7, O8, O9, O10, O11, O12, O13, O14, O15}}
+use Rattle.osek_values.specs.declared.refusal.OilRule.{OilRule, TheVariants.{O1, O2, O3, O4, O5, O6, O7, O9, O10, O11, O12, O13, O14, O15, O16, O17}}
 use Rattle.oil_tree.specs.declared.tree.Tree.{Tree}
 use Rattle.osek_values.specs.declared.refused.LineFault.{LineFault}
 use Rattle.osek_values.specs.LeastFaults as faults
@@ -15,7 +15,6 @@ order O4 = 4
 order O5 = 5
 order O6 = 6
 order O7 = 7
-order O8 = 8
 order O9 = 9
 order O10 = 10
 order O11 = 11
@@ -23,6 +22,8 @@ order O12 = 12
 order O13 = 13
 order O14 = 14
 order O15 = 15
+order O16 = 16
+order O17 = 17
 
 abbrev pub HasNoFault : Tree → Type 0
 HasNoFault t = faults.HasNoFault order (λ (rule : OilRule). lines rule t)

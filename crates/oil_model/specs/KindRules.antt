@@ -1,32 +1,35 @@
 -- The rules on each object of a kind by itself: of which kind, on the line of which attribute, and when it is violated.
 use Rattle.std.specs.Prelude.{ℕ, List, Bool, codes, filter, map}
 use Rattle.oil_tree.specs.declared.tree.Object.{Object}
-use Rattle.oil_model.specs.declared.kind_rules.KindRule.{KindRule, TheVariants.{SeveralActivations, SpecialResource, Callback, ReversedCounter, OtherCategory, ResourceOfIsr}}
-use Rattle.oil_model.specs.{Objects.{objects_of, line_at}, Rules.{is_activated_often, is_special_resource, is_callback, is_reversed, is_other_category, takes_resource}}
+use Rattle.oil_model.specs.declared.kind_rules.KindRule.{KindRule, TheVariants.{WrongActivation, LinkedResource, Callback, ReversedCounter, OtherCategory, ResourceOfIsr, InternalScheduler}}
+use Rattle.oil_model.specs.{Objects.{objects_of, line_at}, Rules.{is_wrongly_activated, is_linked, is_callback, is_reversed, is_other_category, takes_resource, is_internal_scheduler}}
 
 abbrev pub kind_of : KindRule → List ℕ
-kind_of SeveralActivations = codes "TASK"
-kind_of SpecialResource = codes "RESOURCE"
+kind_of WrongActivation = codes "TASK"
+kind_of LinkedResource = codes "RESOURCE"
 kind_of Callback = codes "ALARM"
 kind_of ReversedCounter = codes "COUNTER"
 kind_of OtherCategory = codes "ISR"
 kind_of ResourceOfIsr = codes "ISR"
+kind_of InternalScheduler = codes "RESOURCE"
 
 abbrev pub attribute_of : KindRule → List ℕ
-attribute_of SeveralActivations = codes "ACTIVATION"
-attribute_of SpecialResource = codes "RESOURCEPROPERTY"
+attribute_of WrongActivation = codes "ACTIVATION"
+attribute_of LinkedResource = codes "RESOURCEPROPERTY"
 attribute_of Callback = codes "ACTION"
 attribute_of ReversedCounter = codes "MINCYCLE"
 attribute_of OtherCategory = codes "CATEGORY"
 attribute_of ResourceOfIsr = codes "RESOURCE"
+attribute_of InternalScheduler = codes "RESOURCEPROPERTY"
 
 abbrev pub is_violated : KindRule → Object → Bool
-is_violated SeveralActivations = is_activated_often
-is_violated SpecialResource = is_special_resource
+is_violated WrongActivation = is_wrongly_activated
+is_violated LinkedResource = is_linked
 is_violated Callback = is_callback
 is_violated ReversedCounter = is_reversed
 is_violated OtherCategory = is_other_category
 is_violated ResourceOfIsr = takes_resource
+is_violated InternalScheduler = is_internal_scheduler
 
 abbrev pub violations : KindRule → List Object → List ℕ
 violations rule objects = map (line_at (attribute_of rule)) (filter (is_violated rule) (objects_of (kind_of rule) objects))

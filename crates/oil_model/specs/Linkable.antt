@@ -1,7 +1,7 @@
 -- What linking needs of a system, and resolving gives: all that an application keeps, but for what comes with code.
-use Rattle.std.specs.Prelude.{◌≡◌, ℕ, ◌^◌, ◌<◌, ◌≤◌, Bool, ◌==◌, nat_le, nat_eq, ◌||◌, ◌&&◌, IsTrue, List, length, map, slice_index_or, All, [], false, not}
-use Rattle.std.specs.{List.{IsDistinct, list_any}, Str.{bytes_eq}}
-use Rattle.osek_values.specs.{declared.limits.TheConstants.{MAX_TASKS, MAX_ISRS, MAX_COUNTERS, MAX_ALARMS, MAX_RESOURCES, MAX_MODES}, Names.{AreNames}}
+use Rattle.std.specs.Prelude.{◌≡◌, ⊤, ℕ, ◌^◌, ◌<◌, ◌≤◌, Bool, ◌==◌, nat_le, ◌||◌, ◌&&◌, IsTrue, List, length, map, slice_index_or, All, [], false, Option, Some, None}
+use Rattle.std.specs.{List.{list_any}, Str.{bytes_eq}}
+use Rattle.osek_values.specs.{declared.{limits.TheConstants.{MAX_TASKS, MAX_ACTIVATIONS, MAX_ISRS, MAX_COUNTERS, MAX_ALARMS, MAX_RESOURCES, MAX_MODES}, numbers.ResNo.{ResNo}}, Names.{AreNames}}
 use Rattle.oil_system.specs.declared.objects.{Action.{Action, TheVariants.{ActivateTask, SetEvent}}, Alarm.{Alarm}, Resource.{Resource}}
 use Rattle.oil_system.specs.declared.system.{TaskObject.{TaskObject}, CounterObject.{CounterObject}, EventObject.{EventObject}, System.{System}}
 use Rattle.oil_system.specs.Objects.{greatest_ceiling}
@@ -18,6 +18,15 @@ is_cycle_of_object c cycle = (cycle == 0) || (nat_le c.min_cycle cycle && nat_le
 abbrev pub IsActionAmong : ℕ → Action → Type 0
 IsActionAmong tasks (ActivateTask t) = t.0 < tasks
 IsActionAmong tasks (SetEvent t m) = (t.0 < tasks) × (0 < m.0)
+
+-- past the end of the table stands a resource that declares nothing
+abbrev pub no_resource_object : Resource
+no_resource_object = record { name = []; ceiling = 0; internal = false; interrupt_ceiling = 0 }
+
+-- the INTERNAL resource that a task names, if it names one, is one of the resources
+abbrev pub IsInternalAmong : List Resource → Option ResNo → Type 0
+IsInternalAmong resources None = ⊤
+IsInternalAmong resources (Some r) = (r.0 < length resources) × IsTrue (slice_index_or resources r.0 no_resource_object).internal
 
 pub record IsAlarmAmong (tasks : ℕ) (counters : List CounterObject) (x : Alarm) : Type 0 where
   pub counter : x.counter.0 < length counters
@@ -46,14 +55,15 @@ pub record IsLinkable (s : System) : Type 0 where
   pub category_1_names : AreNames s.category_1_isrs
   pub isrs_apart : All (λ (n : List ℕ). list_any (bytes_eq n) s.category_1_isrs ≡ false) s.isrs
   -- the entries of the tables
-  pub priorities : IsDistinct nat_eq (map (λ (x : TaskObject). x.priority) s.tasks)
+  pub activations : All (λ (x : TaskObject). (1 ≤ x.activation) × (x.activation ≤ MAX_ACTIVATIONS)) s.tasks
+  pub extended_once : All (λ (x : TaskObject). 0 < x.own.0 → x.activation ≡ 1) s.tasks
+  pub internals : All (λ (x : TaskObject). IsInternalAmong s.resources x.internal) s.tasks
   pub task_starts : All (λ (x : TaskObject). x.autostart < 2 ^ length s.modes) s.tasks
   pub each_counter : All (λ (x : CounterObject). (1 ≤ x.max) × (x.min_cycle ≤ x.max)) s.counters
   pub each_alarm : All (IsAlarmAmong (length s.tasks) s.counters) s.alarms
   pub alarm_starts : All (λ (x : Alarm). x.autostart < 2 ^ length s.modes) s.alarms
   pub no_starts : All (λ (x : Alarm). x.autostart ≡ 0 → (x.time ≡ 0) × (x.cycle ≡ 0)) s.alarms
   pub ceilings : All (λ (x : Resource). x.ceiling ≤ greatest_ceiling) s.resources
-  -- no resource is INTERNAL yet, and none keeps an ISR out
-  pub takable : All (λ (x : Resource). IsTrue (not x.internal)) s.resources
+  -- no resource keeps an ISR out yet
   pub no_interrupt_ceilings : All (λ (x : Resource). x.interrupt_ceiling ≡ 0) s.resources
   pub each_event : All (λ (x : EventObject). 0 < x.mask.0) s.events

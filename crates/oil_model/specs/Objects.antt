@@ -63,6 +63,14 @@ is_isr category o = is_kind (codes "ISR") o && (number (codes "CATEGORY") (attr_
 abbrev pub priority : Object → ℕ
 priority o = number (codes "PRIORITY") (attr_list o.attrs) 0
 
+-- TASK, ACTIVATION
+abbrev pub activation : Object → ℕ
+activation o = number (codes "ACTIVATION") (attr_list o.attrs) 1
+
+-- RESOURCE, RESOURCEPROPERTY: a resource that is INTERNAL
+abbrev pub is_internal : Object → Bool
+is_internal o = is_kind (codes "RESOURCE") o && says (codes "RESOURCEPROPERTY") (codes "INTERNAL") (attr_list o.attrs)
+
 -- COUNTER, MAXALLOWEDVALUE and MINCYCLE
 abbrev pub maximum : List Attr → ℕ
 maximum attrs = number (codes "MAXALLOWEDVALUE") attrs 1

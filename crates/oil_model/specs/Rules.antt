@@ -1,15 +1,15 @@
 -- The rules on a tree: on which lines each is violated.
-use Rattle.std.specs.Prelude.{ℕ, ◌-◌, List, [], ◌∷◌, ◌++◌, Bool, true, false, not, ◌&&◌, ◌||◌, if◌then◌else◌, nat_lt, ◌==◌, Option, Some, None, codes, filter, map, drop, slice_get}
+use Rattle.std.specs.Prelude.{ℕ, ◌-◌, List, [], ◌∷◌, ◌++◌, Bool, true, false, not, ◌&&◌, ◌||◌, if◌then◌else◌, nat_le, nat_lt, ◌==◌, Option, Some, None, codes, find, filter, map, drop, slice_get}
 use Rattle.std.specs.{List.{list_any, flat_map}, Str.{bytes_eq}}
-use Rattle.osek_values.specs.declared.limits.TheConstants.{MAX_TASKS, MAX_ISRS, MAX_COUNTERS, MAX_ALARMS, MAX_EVENTS, MAX_RESOURCES, MAX_MODES}
-use Rattle.osek_values.specs.declared.refusal.OilRule.{OilRule, TheVariants.{O1, O2, O3, O4, O5, O6, O7, O8, O9, O10, O11, O12, O13, O14, O15}}
+use Rattle.osek_values.specs.declared.limits.TheConstants.{MAX_TASKS, MAX_ACTIVATIONS, MAX_ISRS, MAX_COUNTERS, MAX_ALARMS, MAX_EVENTS, MAX_RESOURCES, MAX_MODES}
+use Rattle.osek_values.specs.declared.refusal.OilRule.{OilRule, TheVariants.{O1, O2, O3, O4, O5, O6, O7, O9, O10, O11, O12, O13, O14, O15, O16, O17}}
 use Rattle.oil_tree.specs.declared.tree.{Attr.{Attr}, Object.{Object}, Tree.{Tree}, Value.{Value, TheVariants.{Word}}}
 use Rattle.oil_model.specs.declared.{objects.Category.TheVariants.{Two}, table.{Scope.{Scope}, Entry.{Entry}}, domain.Domain.{Domain}}
 use Rattle.oil_model.specs.declared.domain.Domain.TheVariants as domain
 use Rattle.oil_model.specs.Table.{Row, scope_of, rows, entry_of, allows, is_many, is_required}
 use Rattle.oil_tree.specs.AttrLists.{attr_list}
-use Rattle.oil_model.specs.{Lists.{found_in}, LookUp.{has, named, number, says, line, word, attr_line}}
-use Rattle.oil_model.specs.Objects.{objects_of, is_called, declares, attrs_named, line_at, object_line, has_scheduler, is_other_mode, is_ordinary, is_isr, priority, maximum, minimum, alarm_time, cycle_time, start, explicit_bits, mask_of, used_after}
+use Rattle.oil_model.specs.{Lists.{found_in}, LookUp.{is_named, has, named, number, says, line, word_of, word_at, word, attr_line}}
+use Rattle.oil_model.specs.Objects.{objects_of, is_called, declares, attrs_named, line_at, object_line, has_scheduler, is_other_mode, is_ordinary, is_isr, activation, is_internal, maximum, minimum, alarm_time, cycle_time, start, explicit_bits, mask_of, used_after}
 
 -- those that are the same as an earlier one
 abbrev pub repeated : {X : Type 0} → (X → X → Bool) → List X → List X → List X
@@ -92,31 +92,22 @@ is_dangling objects scope a = names_nothing objects (entry_of scope a.name) a.va
 abbrev pub dangling_in : List Object → Scope → ℕ → List Attr → List ℕ
 dangling_in objects scope line attrs = map attr_line (filter (is_dangling objects scope) attrs)
 
--- O8: an earlier task has the priority
-abbrev pub has_priority : ℕ → Object → Bool
-has_priority p o = priority o == p
+-- O9: ACTIVATION is a number outside 1 to 255, or other than 1 on a task that names an EVENT
+abbrev pub is_activation : Bool → ℕ → Bool
+is_activation extended n = if extended then n == 1 else nat_le 1 n && nat_le n MAX_ACTIVATIONS
 
-abbrev pub has_same_priority : Object → Object → Bool
-has_same_priority o earlier = has_priority (priority o) earlier
+abbrev pub is_wrongly_activated : Object → Bool
+is_wrongly_activated o = not (is_activation (has (codes "EVENT") (attr_list o.attrs)) (activation o))
 
-abbrev pub shared_priorities : List Object → List ℕ
-shared_priorities objects = map (line_at (codes "PRIORITY")) (repeated has_same_priority [] (objects_of (codes "TASK") objects))
+abbrev pub wrong_activations : List Object → List ℕ
+wrong_activations objects = map (line_at (codes "ACTIVATION")) (filter is_wrongly_activated (objects_of (codes "TASK") objects))
 
--- O9: ACTIVATION is a number other than 1
-abbrev pub is_activated_often : Object → Bool
-is_activated_often o = not (number (codes "ACTIVATION") (attr_list o.attrs) 1 == 1)
+-- O10: RESOURCEPROPERTY is LINKED
+abbrev pub is_linked : Object → Bool
+is_linked o = says (codes "RESOURCEPROPERTY") (codes "LINKED") (attr_list o.attrs)
 
-abbrev pub several_activations : List Object → List ℕ
-several_activations objects = map (line_at (codes "ACTIVATION")) (filter is_activated_often (objects_of (codes "TASK") objects))
-
--- O10: RESOURCEPROPERTY is LINKED or INTERNAL
-abbrev pub is_special_resource : Object → Bool
-is_special_resource o =
-    says (codes "RESOURCEPROPERTY") (codes "LINKED") (attr_list o.attrs)
-    || says (codes "RESOURCEPROPERTY") (codes "INTERNAL") (attr_list o.attrs)
-
-abbrev pub special_resources : List Object → List ℕ
-special_resources objects = map (line_at (codes "RESOURCEPROPERTY")) (filter is_special_resource (objects_of (codes "RESOURCE") objects))
+abbrev pub linked_resources : List Object → List ℕ
+linked_resources objects = map (line_at (codes "RESOURCEPROPERTY")) (filter is_linked (objects_of (codes "RESOURCE") objects))
 
 -- O11: ACTION is ALARMCALLBACK
 abbrev pub is_callback : Object → Bool
@@ -193,6 +184,33 @@ faulty_isrs objects =
     map (line_at (codes "CATEGORY")) (filter is_other_category (objects_of (codes "ISR") objects))
     ++ map (line_at (codes "RESOURCE")) (filter takes_resource (objects_of (codes "ISR") objects))
 
+-- O16: a RESOURCE of a task names an INTERNAL resource other than the first that the task names
+abbrev pub is_internal_name : List Object → List ℕ → Bool
+is_internal_name objects n = list_any (is_called n) (filter is_internal objects)
+
+abbrev pub names_internal : List Object → Attr → Bool
+names_internal objects a = is_named (codes "RESOURCE") a && is_internal_name objects (word_of a.value)
+
+abbrev pub first_internal : List Object → List Attr → List ℕ
+first_internal objects attrs = word_at (find (names_internal objects) attrs)
+
+abbrev pub names_another : List Object → List ℕ → Attr → Bool
+names_another objects first a = names_internal objects a && not (bytes_eq (word_of a.value) first)
+
+abbrev pub second_internals_of : List Object → Object → List ℕ
+second_internals_of objects o = map attr_line (filter (names_another objects (first_internal objects (attr_list o.attrs))) (attr_list o.attrs))
+
+abbrev pub second_internals : List Object → List ℕ
+second_internals objects = flat_map (second_internals_of objects) (objects_of (codes "TASK") objects)
+
+-- O17: RES_SCHEDULER is INTERNAL while it exists
+abbrev pub is_internal_scheduler : Object → Bool
+is_internal_scheduler o = is_internal o && is_called (codes "RES_SCHEDULER") o
+
+abbrev pub internal_schedulers : List Object → List ℕ
+internal_schedulers objects =
+    if has_scheduler objects then map (line_at (codes "RESOURCEPROPERTY")) (filter is_internal_scheduler (objects_of (codes "RESOURCE") objects)) else []
+
 -- the lines on which a rule is violated
 abbrev pub lines : OilRule → Tree → List ℕ
 lines O1 t = unknown_kinds t.objects
@@ -202,11 +220,12 @@ lines O4 t = found_in missing_in t.objects
 lines O5 t = found_in doubles_in t.objects
 lines O6 t = found_in wrong_in t.objects
 lines O7 t = found_in (dangling_in t.objects) t.objects
-lines O8 t = shared_priorities t.objects
-lines O9 t = several_activations t.objects
-lines O10 t = special_resources t.objects
+lines O9 t = wrong_activations t.objects
+lines O10 t = linked_resources t.objects
 lines O11 t = callbacks t.objects
 lines O12 t = empty_masks t.objects
 lines O13 t = beyond_limits t.objects
 lines O14 t = late_times t.objects
 lines O15 t = faulty_isrs t.objects
+lines O16 t = second_internals t.objects
+lines O17 t = internal_schedulers t.objects

@@ -1,12 +1,12 @@
 -- The system that a tree declares: a clause for each attribute (ISO 17356-6, standard objects).
-use Rattle.std.specs.{Prelude.{ℕ, ◌+◌, ◌-◌, ◌*◌, ◌^◌, max, List, [], ◌∷◌, ◌++◌, map, length, Bool, ◌&&◌, if◌then◌else◌, codes, filter, bit_or, false}, List.{list_any}}
+use Rattle.std.specs.{Prelude.{ℕ, ◌+◌, ◌-◌, ◌*◌, ◌^◌, max, List, [], ◌∷◌, ◌++◌, map, length, Bool, ◌&&◌, if◌then◌else◌, codes, filter, bit_or, false, Option, Some, None}, List.{list_any}}
 use Rattle.std.specs.Str.{bytes_eq}
-use Rattle.osek_values.specs.{Hooks.{hook_set, when, startup, shutdown, error, pre_task, post_task}, Numbers.{mask, task_no, counter_no}}
+use Rattle.osek_values.specs.{Hooks.{hook_set, when, startup, shutdown, error, pre_task, post_task}, Numbers.{mask, task_no, counter_no, res_no}, declared.numbers.ResNo.{ResNo}}
 use Rattle.oil_system.specs.declared.objects.{Schedule.{Schedule, TheVariants.{Non, Full}}, Action.{Action, TheVariants.{ActivateTask, SetEvent}}, Alarm.{Alarm}, Resource.{Resource}}
 use Rattle.oil_system.specs.declared.system.{TaskObject.{TaskObject}, CounterObject.{CounterObject}, EventObject.{EventObject}, System.{System}}
 use Rattle.oil_tree.specs.{declared.tree.{Attr.{Attr}, Object.{Object}}, AttrLists.{attr_list}}
 use Rattle.oil_model.specs.{declared.objects.Category.TheVariants.{One, Two}, LookUp.{is_named, has, number, says, word_of, word, inner}}
-use Rattle.oil_model.specs.Objects.{objects_of, name_of, os_attrs, has_scheduler, is_other_mode, is_ordinary, is_isr, priority, maximum, minimum, alarm_time, cycle_time}
+use Rattle.oil_model.specs.Objects.{objects_of, name_of, os_attrs, has_scheduler, is_other_mode, is_ordinary, is_isr, priority, activation, is_internal, maximum, minimum, alarm_time, cycle_time}
 use Rattle.oil_model.specs.Objects.{is_started, start, explicit_bits, mask_of, used_after}
 
 -- OS: the hooks that are TRUE
@@ -67,16 +67,35 @@ abbrev pub own_bits : ℕ → List EventObject → List Attr → ℕ
 own_bits bits events [] = bits
 own_bits bits events (a ∷ attrs) = own_bits (if is_named (codes "EVENT") a then bit_or bits (mask_named (word_of a.value) events) else bits) events attrs
 
+-- TASK, RESOURCE: the first INTERNAL resource that it names, if it names one. The number of the INTERNAL resource of a name
+-- is sought in a list that goes on from number k.
+abbrev pub internal_from : ℕ → List ℕ → List Resource → Option ResNo
+internal_from k n [] = None
+internal_from k n (r ∷ resources) = if r.internal && bytes_eq r.name n then Some (res_no k) else internal_from (k + 1) n resources
+
+abbrev pub internal_by : List Resource → Attr → Option ResNo
+internal_by resources a = if is_named (codes "RESOURCE") a then internal_from 0 (word_of a.value) resources else None
+
+abbrev pub first_of : Option ResNo → Option ResNo → Option ResNo
+first_of (Some r) later = Some r
+first_of None later = later
+
+abbrev pub internal : List Resource → List Attr → Option ResNo
+internal resources [] = None
+internal resources (a ∷ attrs) = first_of (internal_by resources a) (internal resources attrs)
+
 abbrev pub schedule : List Attr → Schedule
 schedule attrs = if says (codes "SCHEDULE") (codes "NON") attrs then Non else Full
 
-abbrev pub task : List (List ℕ) → List EventObject → Object → TaskObject
-task modes events o = record {
+abbrev pub task : List (List ℕ) → List EventObject → List Resource → Object → TaskObject
+task modes events resources o = record {
   name = o.name;
   priority = priority o;
   schedule = schedule (attr_list o.attrs);
   own = mask (own_bits 0 events (attr_list o.attrs));
   autostart = autostart modes (attr_list o.attrs);
+  activation = activation o;
+  internal = internal resources (attr_list o.attrs);
 }
 
 -- COUNTER
@@ -126,12 +145,12 @@ above_all (o ∷ tasks) = max (2 * priority o + 1) (above_all tasks)
 abbrev pub ceiling : List ℕ → List Object → ℕ
 ceiling n tasks = above_all (filter (names_resource n) tasks)
 
--- RES_SCHEDULER, as if every task named it; its ceiling is 1 where there is no task
+-- RES_SCHEDULER, as if every task named it, and never INTERNAL; its ceiling is 1 where there is no task
 abbrev pub top_ceiling : List Object → ℕ
 top_ceiling tasks = max 1 (above_all tasks)
 
 abbrev pub resource : List Object → Object → Resource
-resource tasks o = record { name = o.name; ceiling = ceiling o.name tasks; internal = false; interrupt_ceiling = 0 }
+resource tasks o = record { name = o.name; ceiling = ceiling o.name tasks; internal = is_internal o; interrupt_ceiling = 0 }
 
 abbrev pub scheduler : List Object → Resource
 scheduler tasks = record { name = codes "RES_SCHEDULER"; ceiling = top_ceiling tasks; internal = false; interrupt_ceiling = 0 }
@@ -149,7 +168,7 @@ names_of kind objects = map name_of (objects_of kind objects)
 abbrev pub system_of : List Object → System
 system_of objects = record {
   hooks = hook_set (hooks objects);
-  tasks = map (task (modes objects) (events objects)) (objects_of (codes "TASK") objects);
+  tasks = map (task (modes objects) (events objects) (resources objects)) (objects_of (codes "TASK") objects);
   isrs = map name_of (filter (is_isr Two) objects);
   category_1_isrs = map name_of (filter (is_isr One) objects);
   counters = map counter (objects_of (codes "COUNTER") objects);

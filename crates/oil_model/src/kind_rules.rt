@@ -5,16 +5,18 @@ ghost use Rattle.oil_model.specs.Rules as rules_of;
 
 use crate::lines::sooner;
 use crate::look_up::{has, number, says};
-use crate::objects::{Category, is_isr, is_kind, line_at, maximum, minimum};
+use crate::objects::{
+    Category, activation, is_called, is_internal, is_isr, is_kind, line_at, maximum, minimum,
+};
 use oil_tree::Object;
 
 /// A rule on each object of a kind.
 #[derive(Clone, Copy)]
 pub enum KindRule {
-    /// ACTIVATION other than 1.
-    SeveralActivations,
-    /// RESOURCEPROPERTY that is LINKED or INTERNAL.
-    SpecialResource,
+    /// ACTIVATION outside 1 to 255, or other than 1 beside an EVENT.
+    WrongActivation,
+    /// RESOURCEPROPERTY that is LINKED.
+    LinkedResource,
     /// ACTION that is ALARMCALLBACK.
     Callback,
     /// MINCYCLE above MAXALLOWEDVALUE.
@@ -23,6 +25,8 @@ pub enum KindRule {
     OtherCategory,
     /// RESOURCE of a category 2 ISR.
     ResourceOfIsr,
+    /// RESOURCEPROPERTY of RES_SCHEDULER that is INTERNAL.
+    InternalScheduler,
 }
 
 /// The kind of the objects that a rule judges.
@@ -30,12 +34,13 @@ fn kind_of(rule: KindRule) -> &'static [u8]
     ensures { result.now ≡ kind_of rule }
 {
     match rule {
-        KindRule::SeveralActivations => b"TASK",
-        KindRule::SpecialResource => b"RESOURCE",
+        KindRule::WrongActivation => b"TASK",
+        KindRule::LinkedResource => b"RESOURCE",
         KindRule::Callback => b"ALARM",
         KindRule::ReversedCounter => b"COUNTER",
         KindRule::OtherCategory => b"ISR",
         KindRule::ResourceOfIsr => b"ISR",
+        KindRule::InternalScheduler => b"RESOURCE",
     }
 }
 
@@ -44,26 +49,42 @@ fn attribute_of(rule: KindRule) -> &'static [u8]
     ensures { result.now ≡ attribute_of rule }
 {
     match rule {
-        KindRule::SeveralActivations => b"ACTIVATION",
-        KindRule::SpecialResource => b"RESOURCEPROPERTY",
+        KindRule::WrongActivation => b"ACTIVATION",
+        KindRule::LinkedResource => b"RESOURCEPROPERTY",
         KindRule::Callback => b"ACTION",
         KindRule::ReversedCounter => b"MINCYCLE",
         KindRule::OtherCategory => b"CATEGORY",
         KindRule::ResourceOfIsr => b"RESOURCE",
+        KindRule::InternalScheduler => b"RESOURCEPROPERTY",
     }
 }
 
-fn is_activated_often(object: &Object) -> bool
-    ensures { result ≡ rules_of.is_activated_often object.now }
+fn is_activation(extended: bool, number: u64) -> bool
+    ensures { result ≡ rules_of.is_activation extended number }
 {
-    number(b"ACTIVATION", object.attrs.as_slice(), 1) != 1
+    if extended {
+        number == 1
+    } else {
+        1 <= number && number <= 255
+    }
 }
 
-fn is_special_resource(object: &Object) -> bool
-    ensures { result ≡ rules_of.is_special_resource object.now }
+fn is_wrongly_activated(object: &Object) -> bool
+    ensures { result ≡ rules_of.is_wrongly_activated object.now }
 {
-    let attrs = object.attrs.as_slice();
-    says(b"RESOURCEPROPERTY", b"LINKED", attrs) || says(b"RESOURCEPROPERTY", b"INTERNAL", attrs)
+    !is_activation(has(b"EVENT", object.attrs.as_slice()), activation(object))
+}
+
+fn is_linked(object: &Object) -> bool
+    ensures { result ≡ rules_of.is_linked object.now }
+{
+    says(b"RESOURCEPROPERTY", b"LINKED", object.attrs.as_slice())
+}
+
+fn is_internal_scheduler(object: &Object) -> bool
+    ensures { result ≡ rules_of.is_internal_scheduler object.now }
+{
+    is_internal(object) && is_called(b"RES_SCHEDULER", object)
 }
 
 fn is_callback(object: &Object) -> bool
@@ -97,12 +118,13 @@ fn is_violated(rule: KindRule, object: &Object) -> bool
     ensures { result ≡ is_violated rule object.now }
 {
     match rule {
-        KindRule::SeveralActivations => is_activated_often(object),
-        KindRule::SpecialResource => is_special_resource(object),
+        KindRule::WrongActivation => is_wrongly_activated(object),
+        KindRule::LinkedResource => is_linked(object),
         KindRule::Callback => is_callback(object),
         KindRule::ReversedCounter => is_reversed(object),
         KindRule::OtherCategory => is_other_category(object),
         KindRule::ResourceOfIsr => takes_resource(object),
+        KindRule::InternalScheduler => is_internal_scheduler(object),
     }
 }
 

@@ -6,17 +6,18 @@ use crate::attribute_rules::{
     dangling_reference, doubled_attribute, missing_attribute, wrong_value,
 };
 use crate::fault::ModelFault;
+use crate::internals::second_internal;
 use crate::kind_rules::{KindRule, least_violation};
 use crate::limits::beyond_limit;
 use crate::masks::empty_mask;
-use crate::object_rules::{faulty_isr, os_fault, repeated_name, shared_priority, unknown_kind};
+use crate::object_rules::{faulty_isr, internal_scheduler, os_fault, repeated_name, unknown_kind};
 use crate::times::late_time;
 use oil_tree::Tree;
 use osek_values::{Memory, OilRule};
 use std::alloc::Global;
 
 /// The rules, in their order.
-const RULES: [OilRule; 15] = [
+const RULES: [OilRule; 16] = [
     OilRule::O1,
     OilRule::O2,
     OilRule::O3,
@@ -24,7 +25,6 @@ const RULES: [OilRule; 15] = [
     OilRule::O5,
     OilRule::O6,
     OilRule::O7,
-    OilRule::O8,
     OilRule::O9,
     OilRule::O10,
     OilRule::O11,
@@ -32,6 +32,8 @@ const RULES: [OilRule; 15] = [
     OilRule::O13,
     OilRule::O14,
     OilRule::O15,
+    OilRule::O16,
+    OilRule::O17,
 ];
 
 /// The least line on which a rule is violated.
@@ -47,14 +49,15 @@ fn least_line(alloc: Global, rule: OilRule, tree: &Tree) -> Result<Option<u32>, 
         OilRule::O5 => Ok(doubled_attribute(objects)),
         OilRule::O6 => Ok(wrong_value(objects)),
         OilRule::O7 => dangling_reference(alloc, objects),
-        OilRule::O8 => shared_priority(alloc, objects),
-        OilRule::O9 => Ok(least_violation(KindRule::SeveralActivations, objects)),
-        OilRule::O10 => Ok(least_violation(KindRule::SpecialResource, objects)),
+        OilRule::O9 => Ok(least_violation(KindRule::WrongActivation, objects)),
+        OilRule::O10 => Ok(least_violation(KindRule::LinkedResource, objects)),
         OilRule::O11 => Ok(least_violation(KindRule::Callback, objects)),
         OilRule::O12 => Ok(empty_mask(objects)),
         OilRule::O13 => Ok(beyond_limit(objects)),
         OilRule::O14 => Ok(late_time(objects)),
         OilRule::O15 => Ok(faulty_isr(objects)),
+        OilRule::O16 => second_internal(alloc, objects),
+        OilRule::O17 => Ok(internal_scheduler(objects)),
     }
 }
 

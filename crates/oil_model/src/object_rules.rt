@@ -6,12 +6,11 @@ ghost use Rattle.oil_model.specs.Rules as rules_of;
 use crate::kind_rules::{KindRule, least_violation};
 use crate::lines::{line_if, sooner};
 use crate::name_set::NameSet;
-use crate::objects::{is_kind, line_at, priority};
+use crate::objects::{has_scheduler, is_kind};
 use crate::table::scope_of;
 use oil_tree::Object;
 use osek_values::Memory;
 use std::alloc::Global;
-use std::collections::BTreeSet;
 
 fn is_unknown(object: &Object) -> bool
     ensures { result ≡ rules_of.is_unknown object.now }
@@ -81,22 +80,6 @@ pub fn os_fault(cpu: u32, objects: &[Object]) -> Option<u32>
     if seen { best } else { Some(cpu) }
 }
 
-/// The least line of a PRIORITY that an earlier task has.
-#[tactic(auto, using(crate::proofs::Leasts::least_steps))]
-pub fn shared_priority(alloc: Global, objects: &[Object]) -> Result<Option<u32>, Memory>
-    ensures { IfOk result (λ line. line ≡ least (rules_of.shared_priorities objects.now)) }
-{
-    let mut seen = BTreeSet::new(alloc);
-    let mut best = None;
-    for object in objects {
-        if is_kind(b"TASK", object) {
-            let new = seen.insert(priority(object))?;
-            best = sooner(best, line_if(!new, line_at(b"PRIORITY", object)));
-        }
-    }
-    Ok(best)
-}
-
 /// The least line of a CATEGORY other than 1 and 2, or of the first RESOURCE of a category 2 ISR.
 #[tactic(auto, using(crate::proofs::Leasts::least_append))]
 pub fn faulty_isr(objects: &[Object]) -> Option<u32>
@@ -106,4 +89,15 @@ pub fn faulty_isr(objects: &[Object]) -> Option<u32>
         least_violation(KindRule::OtherCategory, objects),
         least_violation(KindRule::ResourceOfIsr, objects),
     )
+}
+
+/// The line of a RESOURCEPROPERTY that makes the RES_SCHEDULER that exists INTERNAL.
+pub fn internal_scheduler(objects: &[Object]) -> Option<u32>
+    ensures { result ≡ least (rules_of.internal_schedulers objects.now) }
+{
+    if has_scheduler(objects) {
+        least_violation(KindRule::InternalScheduler, objects)
+    } else {
+        None
+    }
 }

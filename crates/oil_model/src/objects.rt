@@ -1,6 +1,6 @@
 //! What an object declares, of what the rules and the system both read.
 ghost use Rattle.std.specs.Prelude.{◌≡◌, if◌then◌else◌};
-ghost use Rattle.oil_model.specs.Objects.{is_kind, is_called, objects_of, attrs_named, os_attrs, line_at, has_scheduler, is_other_mode, is_ordinary, category_number, is_isr, priority, maximum, minimum, is_started, start};
+ghost use Rattle.oil_model.specs.Objects.{is_kind, is_called, objects_of, attrs_named, os_attrs, line_at, has_scheduler, is_other_mode, is_ordinary, category_number, is_isr, priority, activation, is_internal, maximum, minimum, is_started, start};
 
 use crate::look_up::{inner, line, number, says};
 use oil_tree::{Attr, Object};
@@ -100,6 +100,20 @@ pub fn priority(object: &Object) -> u64
     ensures { result ≡ priority object.now }
 {
     number(b"PRIORITY", object.attrs.as_slice(), 0)
+}
+
+/// ACTIVATION of a task.
+pub fn activation(object: &Object) -> u64
+    ensures { result ≡ activation object.now }
+{
+    number(b"ACTIVATION", object.attrs.as_slice(), 1)
+}
+
+/// Whether it is an INTERNAL resource.
+pub fn is_internal(object: &Object) -> bool
+    ensures { result ≡ is_internal object.now }
+{
+    is_kind(b"RESOURCE", object) && says(b"RESOURCEPROPERTY", b"INTERNAL", object.attrs.as_slice())
 }
 
 /// MAXALLOWEDVALUE of a counter, from its attributes.

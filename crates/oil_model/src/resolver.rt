@@ -6,7 +6,7 @@ ghost use Rattle.oil_tree.specs.declared.tree.Tree.{Tree};
 ghost use Rattle.osek_values.specs.declared.{refused.LineFault.{LineFault}, refusal.OilRule.{OilRule}};
 ghost use Rattle.oil_model.specs.Faults.{HasNoFault};
 ghost use Rattle.osek_values.specs.Answers.{IsRight, Answers};
-ghost use Rattle.oil_model.specs.{Answers.{IsAnswer}, Lists.{found_in}, Rules.{wrong_in, late_times, beyond_limits}, Systems.{system_of}};
+ghost use Rattle.oil_model.specs.{Answers.{IsAnswer}, Lists.{found_in}, Rules.{wrong_in, wrong_activations, late_times, beyond_limits}, Systems.{system_of}};
 
 use crate::alarms::{alarms, counters};
 use crate::events::events;
@@ -25,18 +25,25 @@ use std::alloc::Global;
 
 fn build(alloc: Global, objects: &[Object]) -> Result<System, Memory>
     requires allowed { found_in wrong_in objects.now ≡ [] }
+    requires activated { wrong_activations objects.now ≡ [] }
     requires inside { late_times objects.now ≡ [] }
     requires room { beyond_limits objects.now ≡ [] }
     ensures { IfOk result (λ s. s ≡ system_of objects.now) }
 {
     let modes = modes(alloc, objects)?;
     let events = events(alloc, objects)?;
-    let tasks = tasks(alloc, objects, modes.as_slice(), events.as_slice())?;
+    let resources = resources(alloc, objects)?;
+    let tasks = tasks(
+        alloc,
+        objects,
+        modes.as_slice(),
+        events.as_slice(),
+        resources.as_slice(),
+    )?;
     let alarms = alarms(alloc, objects, modes.as_slice(), events.as_slice())?;
     let category_2_isrs = isrs(alloc, Category::Two, objects)?;
     let category_1_isrs = isrs(alloc, Category::One, objects)?;
     let counters = counters(alloc, objects)?;
-    let resources = resources(alloc, objects)?;
     Ok(System {
         hooks: hooks(objects),
         tasks,

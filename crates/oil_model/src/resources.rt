@@ -5,7 +5,7 @@ ghost use Rattle.oil_model.specs.Systems.{is_naming, names_resource, ceiling, to
 
 use crate::look_up::{is_named, word_of};
 use crate::names;
-use crate::objects::{has_scheduler, is_kind, is_ordinary, priority};
+use crate::objects::{has_scheduler, is_internal, is_kind, is_ordinary, priority};
 use crate::tasks::narrow;
 use oil_system::Resource;
 use oil_tree::{Attr, Object};
@@ -80,7 +80,7 @@ fn ordinary(alloc: Global, scheduler: bool, objects: &[Object]) -> Result<Vec<Re
             found.push(Resource {
                 name,
                 ceiling,
-                internal: false,
+                internal: is_internal(object),
                 interrupt_ceiling: 0,
             })?;
         }

@@ -1,7 +1,7 @@
 //! What an OIL file declares: an application without the blocks of its code, and the names that only code refers to.
 
 use crate::objects::{Alarm, Resource, Schedule};
-use osek_values::{HookSet, Mask, Name, Seq};
+use osek_values::{HookSet, Mask, Name, ResNo, Seq};
 
 /// A TASK object.
 #[derive(Debug, Drop)]
@@ -14,6 +14,10 @@ pub struct TaskObject {
     pub own: Mask,
     /// Bit k is set where it is autostarted in mode k.
     pub autostart: u8,
+    /// ACTIVATION: how many activations it may have at once, the running one among them.
+    pub activation: u8,
+    /// The INTERNAL resource that it names, if it names one.
+    pub internal: Option<ResNo>,
 }
 
 /// A COUNTER object.

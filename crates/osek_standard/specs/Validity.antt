@@ -175,21 +175,13 @@ module _ (t : Tables) where
     pub each : (b : ℕ) → IsAmong b first count → IsTrue (tick_may due (b - first) (block_at b).kind)
     pub next : (b : ℕ) → IsAmong b first count → b + 1 < first + count → (block_at b).next.0 ≡ b + 1
 
-  -- each task takes one activation at a time
-  abbrev pub TakesOneActivation : Type 0
-  TakesOneActivation = All (λ (x : Task). x.activation ≡ 1) t.tasks
-
-  -- no resource is INTERNAL
-  abbrev pub NoneIsInternal : Type 0
-  NoneIsInternal = All (λ (x : Resource). IsTrue (not x.internal)) t.resources
-
   -- the ISRs have one priority, and no resource keeps one of them out
   abbrev pub NoneNests : Type 0
   NoneNests = All (λ (x : Isr). x.priority ≡ 0) t.isrs × All (λ (x : Resource). x.interrupt_ceiling ≡ 0) t.resources
 
   -- What no text and no image brings yet. It is shut, so that a proof rests on it only where it opens it.
   unfoldable pub IsClosed : Type 0
-  IsClosed = TakesOneActivation × NoneIsInternal × NoneNests
+  IsClosed = NoneNests
 
   pub record IsValid : Type 0 where
     -- five hooks, a bit each

@@ -20,16 +20,22 @@ module _ (app : App) (p : Point) (k : Component) (of : Bool → PartValue) (can 
   both_ascend = ((less, tt), (tt, tt))
 
   single : (b : Bool) → IsGoodSet app p k (of b ∷ [])
-  single b = record { some = omega arith; allowed = All-cons (IsPart app p k) (of b) [] (can b) (All-nil (IsPart app p k)); ascending = ascending_one (of b) }
+  single b = record {
+    values = record { some = omega arith; allowed = All-cons (IsPart app p k) (of b) [] (can b) (All-nil (IsPart app p k)); ascending = ascending_one (of b) };
+    few = omega arith;
+  }
 
   pub good_flags : (n : ℕ) → IsFlagNumber n → IsGoodSet app p k (flagged of n)
   good_flags zero h = absurd (omega (arith, h.0))
   good_flags (suc zero) h = single false
   good_flags (suc (suc zero)) h = single true
   good_flags (suc (suc (suc zero))) h = record {
-    some = omega arith;
-    allowed = All-cons (IsPart app p k) (of false) (of true ∷ []) (can false) (All-cons (IsPart app p k) (of true) [] (can true) (All-nil (IsPart app p k)));
-    ascending = both_ascend;
+    values = record {
+      some = omega arith;
+      allowed = All-cons (IsPart app p k) (of false) (of true ∷ []) (can false) (All-cons (IsPart app p k) (of true) [] (can true) (All-nil (IsPart app p k)));
+      ascending = both_ascend;
+    };
+    few = omega arith;
   }
   good_flags (suc (suc (suc (suc n)))) h = absurd (omega (arith, h.1))
 

@@ -7,7 +7,7 @@ use Rattle.osek_standard.specs.declared.{app.App.{App}, point.Point.{Point}}
 use Rattle.abstract_state.specs.declared.value.PartValue.{PartValue, TheVariants.{OfTask, OfEvent, OfAlarm}}
 use Rattle.abstract_state.specs.declared.value.Component.TheVariants as component
 use Rattle.abstract_state.specs.{ValueOrder.{part_order, IsAscending}, Components.{IsPart}}
-use Rattle.table_codec.specs.{declared.fault.Fault.{Fault}, Spelling.{flags, flag_number}, Faults.{IsFlagsFault, IsGoodSet}}
+use Rattle.table_codec.specs.{declared.fault.Fault.{Fault}, Spelling.{flags, flag_number}, Faults.{IsFlagsFault, AreGoodValues}}
 
 -- a set of flags, and its number
 pub data IsFlagSet (of : Bool → PartValue) (vs : List PartValue) (n : ℕ) : Type 0 where
@@ -89,10 +89,10 @@ module _ (app : App) (p : Point) where
   alarms a (OfEvent b ∷ vs) all = absurd all.0
   alarms a (OfAlarm b ∷ vs) all = ((b, refl), alarms a vs all.1)
 
-  pub event_set : (t : TaskNo) (j : EventNo) (vs : List PartValue) → IsGoodSet app p (component.Event t j) vs → IsFlagSet OfEvent vs (sum_by flag_number vs)
+  pub event_set : (t : TaskNo) (j : EventNo) (vs : List PartValue) → AreGoodValues app p (component.Event t j) vs → IsFlagSet OfEvent vs (sum_by flag_number vs)
   event_set t j vs h = flag_set OfEvent event_ones (λ b. refl) vs (events t j vs (recursion_from_All (IsPart app p (component.Event t j)) vs h.allowed)) h.ascending h.some
 
-  pub alarm_set : (a : AlarmNo) (vs : List PartValue) → IsGoodSet app p (component.Alarm a) vs → IsFlagSet OfAlarm vs (sum_by flag_number vs)
+  pub alarm_set : (a : AlarmNo) (vs : List PartValue) → AreGoodValues app p (component.Alarm a) vs → IsFlagSet OfAlarm vs (sum_by flag_number vs)
   alarm_set a vs h = flag_set OfAlarm alarm_ones (λ b. refl) vs (alarms a vs (recursion_from_All (IsPart app p (component.Alarm a)) vs h.allowed)) h.ascending h.some
 
 pub one_flags : (of : Bool → PartValue) (vs ws : List PartValue) (r s : List ℕ) → IsFlagSet of vs (sum_by flag_number vs) → IsFlagSet of ws (sum_by flag_number ws) → flags vs ++ r ≡ flags ws ++ s → (vs ≡ ws) × (r ≡ s)

@@ -19,6 +19,7 @@ pub mod RowsSoFar
 pub mod Sequences
 pub mod SetFaults
 pub mod ShapeLaws
+pub mod ShortTables
 pub mod SomeShapes
 pub mod SomeTables
 pub mod SomeValues

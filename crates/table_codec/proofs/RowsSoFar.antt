@@ -1,5 +1,5 @@
 -- Rows that are read point by point: they make a written table, and spell the points so far.
-use Rattle.std.proofs.Common.{◌≡◌, ap₂, cond, append_assoc, ℕ, zero, suc, ◌+◌, ◌<◌, ◌≤◌, List, [], ◌∷◌, ◌++◌, length, filter, take, drop, get_or, refl, sym, ap, subst, ◌∙◌, inl, inr, arith, All}
+use Rattle.std.proofs.Common.{◌≡◌, ap₂, cond, append_assoc, ℕ, zero, suc, ◌+◌, ◌^◌, ◌<◌, ◌≤◌, List, [], ◌∷◌, ◌++◌, length, filter, take, drop, get_or, refl, sym, ap, subst, ◌∙◌, inl, inr, arith, All}
 use Rattle.std.specs.{Prelude.{Contains}, List.{flat_map, AllByRecursion}}
 use Rattle.std.proofs.lemmas.List.{length-map, get_or-map, take_more, take_all, take-append-drop, Concat.{flat_map-cons}, Elements.{All-from_recursion, All-contains, All-weaker}}
 use Rattle.std.specs.Option.{option_map}
@@ -12,12 +12,12 @@ use Rattle.abstract_state.specs.declared.value.Component.TheVariants as componen
 use Rattle.abstract_state.specs.declared.table.{ValueSet.{ValueSet}, PlainEntry.{PlainEntry}, TableRow.{TableRow}, PlainTable.{PlainTable}}
 use Rattle.abstract_state.specs.Components.{components, component_at, component_count, IsPart}
 use Rattle.abstract_state.specs.{Domains.{domains, domains_of, domain_of, IsWithin, IsSound, IsSoundEntry, HasMasks}, Tables.{empty_set, set_at, is_row_of, sets_of, IsProper}}
-use Rattle.abstract_state.specs.Written.{IsRow, IsWritten}
+use Rattle.abstract_state.specs.Written.{IsRow}
 use Rattle.abstract_state.proofs.{DomainValues.{allowed_within}, HeightLaws.{entry_height_is, height_few}, EqualityLaws.{point_itself, written_entry, written_value}}
 use Rattle.table_codec.specs.declared.fault.Fault.{Fault}
 use Rattle.numbered_sets.specs.PlainTables.{row_at}
 use Rattle.osek_standard.specs.Points.{points_in_order}
-use Rattle.table_codec.specs.{Spelling.{members_of, entry_bytes, rows_bytes, point_bytes}, Faults.{IsGoodSet, AreGoodSets, IsPointFault, IsRowFault}, Sets.{IsReadEntry}}
+use Rattle.table_codec.specs.{Spelling.{members_of, entry_bytes, rows_bytes, point_bytes, IsSpellable}, Faults.{IsGoodSet, AreGoodSets, IsPointFault, IsRowFault}, Sets.{IsReadEntry}}
 use Rattle.table_codec.specs.Rows.{IsReadTable}
 use Rattle.table_codec.proofs.{EntryFaults.{entry_size}, Merging.{row_number, Up, up_push, sorted_from_up, none_before, filter_other, filter_own, other_number}}
 use Rattle.table_codec.proofs.{Ascends.{all_push}, PointOrder.{points_up, among_point}, ReadSoFar.{one_more_flat, read_on}}
@@ -58,11 +58,11 @@ module _ (app : App) (table : PlainTable) (each : AllByRecursion (IsGoodRow app)
         let x = (written_value table p c v).0 m in
         let good = good_there x.row x.among in
         let set = set_there x.row good c (value_known x.row good c v x.member) in
-        subst (λ (q : Point). IsPart app q (component_at app c) v) x.point (All-contains (IsPart app x.row.point (component_at app c)) (set_at x.row.entry c).members v set.allowed x.member);
+        subst (λ (q : Point). IsPart app q (component_at app c) v) x.point (All-contains (IsPart app x.row.point (component_at app c)) (set_at x.row.entry c).members v set.values.allowed x.member);
     filled = λ p c e lt.
         let x = (written_entry table p).0 e in
         let set = set_there x.row (good_there x.row x.among) c lt in
-        let first = first_member (set_at x.row.entry c).members set.some in
+        let first = first_member (set_at x.row.entry c).members set.values.some in
         (first.0, (written_value table p c first.0).1 (record { row = x.row; among = x.among; point = x.point; member = first.1 }));
   }
 
@@ -70,11 +70,22 @@ module _ (app : App) (table : PlainTable) (each : AllByRecursion (IsGoodRow app)
   row_of_good [] all = tt
   row_of_good (row ∷ rows) all = (all.0.is, row_of_good rows all.1)
 
-  pub rows_written : Up row_number table.rows → IsWritten app table
-  rows_written up = record {
-    ascending = sorted_from_up row_number table.rows up;
-    rows = All-from_recursion (IsRow app) table.rows (row_of_good table.rows each);
-    proper = rows_proper;
+  few_values : (row : TableRow) → IsGoodRow app row → All (λ (set : ValueSet). length set.members < 2 ^ 32) row.entry.sets
+  few_values row h c d lt =
+      (h.good c (get_or row.entry.sets c d).members (slice_get-map (λ (set : ValueSet). set.members) row.entry.sets c ∙ ap (option_map (λ (set : ValueSet). set.members)) (slice_get-get_or row.entry.sets c d lt))).few
+
+  few_of_good : (rows : List TableRow) → AllByRecursion (IsGoodRow app) rows → AllByRecursion (λ (row : TableRow). All (λ (set : ValueSet). length set.members < 2 ^ 32) row.entry.sets) rows
+  few_of_good [] all = tt
+  few_of_good (row ∷ rows) all = (few_values row all.0, few_of_good rows all.1)
+
+  pub rows_spellable : Up row_number table.rows → IsSpellable app table
+  rows_spellable up = record {
+    written = record {
+      ascending = sorted_from_up row_number table.rows up;
+      rows = All-from_recursion (IsRow app) table.rows (row_of_good table.rows each);
+      proper = rows_proper;
+    };
+    few = All-from_recursion (λ (row : TableRow). All (λ (set : ValueSet). length set.members < 2 ^ 32) row.entry.sets) table.rows (few_of_good table.rows each);
   }
 
 -- ---- point by point
@@ -92,8 +103,8 @@ module _ (app : App) (masks : HasMasks app) (p : Point) (entry : PlainEntry) (sa
       ∙ ap (λ (ds : List Domain). get_or ds c (domain_of app (component_at app c))) same
       ∙ get_or-map (domain_of app) (components app) c (component.Alarm (alarm_no 0)) (domain_of app (component_at app c)) known in
       record {
-        within = subst (λ (e : Domain). All (IsWithin e) set.members) (sym domain) (All-weaker (IsPart app p (component_at app c)) (IsWithin (domain_of app (component_at app c))) (λ v h. allowed_within app p c v known h) set.members is.allowed);
-        ascending = is.ascending;
+        within = subst (λ (e : Domain). All (IsWithin e) set.members) (sym domain) (All-weaker (IsPart app p (component_at app c)) (IsWithin (domain_of app (component_at app c))) (λ v h. allowed_within app p c v known h) set.members is.values.allowed);
+        ascending = is.values.ascending;
       }
 
   pub sound_entry : IsSoundEntry entry
@@ -195,7 +206,7 @@ module _ (app : App) where
     pub bad_row : (f : Fault) → IsPointFault app p rest f → IsRowFault app bytes f
     bad_row f bad = record {
       table = record { rows = rows };
-      written = rows_written app (record { rows = rows }) h.each h.up;
+      spellable = rows_spellable app (record { rows = rows }) h.each h.up;
       done = take place ps;
       point = p;
       later = drop (place + 1) ps;
@@ -223,6 +234,6 @@ module _ (app : App) where
 
   pub all_rows : (bytes : List ℕ) (place : ℕ) (rows : List TableRow) (rest : List ℕ) → length (points_in_order app) ≤ place → AreRowsSoFar app bytes place rows rest → IsReadTable app bytes rest (record { rows = rows })
   all_rows bytes place rows rest whole h = record {
-    written = rows_written app (record { rows = rows }) h.each h.up;
+    spellable = rows_spellable app (record { rows = rows }) h.each h.up;
     are = h.are ∙ ap (λ (qs : List Point). flat_map (point_bytes app rows) qs ++ rest) (take_all place ps whole);
   }

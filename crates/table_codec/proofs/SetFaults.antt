@@ -1,16 +1,12 @@
 -- The set of a component: it is read in one way, or has one fault.
-use Rattle.std.proofs.Common.{◌≡◌, ℕ, ◌+◌, ◌*◌, ◌^◌, ◌<◌, ◌≤◌, List, [], ◌∷◌, ◌++◌, length, flat_map, refl, sym, ap, subst, ◌∙◌, arith, append_assoc, All}
-use Rattle.std.specs.{Prelude.{None, is_some, if◌then◌else◌}, declared.option.Option.{Option}, Int.{to_be_bytes, w32, from_be_bytes}, List.{AllByRecursion}}
-use Rattle.std.proofs.lemmas.{List.{Concat.{flat_map-cons}, Elements.{recursion_from_All, All-weaker}}, Nat.{from_be_bytes-to_be_bytes_4}}
-use Rattle.osek_values.specs.declared.numbers.{TaskNo.{TaskNo}, ResNo.{ResNo}}
-use Rattle.osek_standard.specs.{declared.{app.App.{App}, point.Point.{Point}}, Apps.{the_task, no_task}, Counts.{stacks, takable_count}}
-use Rattle.osek_standard.proofs.CountLaws.{few_stacks}
-use Rattle.std.proofs.Math.Nat.{mul-le-mul}
+use Rattle.std.proofs.Common.{◌≡◌, ℕ, ◌^◌, ◌<◌, ◌≤◌, List, [], ◌∷◌, ◌++◌, length, flat_map, refl, sym, ap, subst, ◌∙◌, arith, append_assoc}
+use Rattle.std.specs.{Int.{to_be_bytes, w32, from_be_bytes}, List.{AllByRecursion}}
+use Rattle.std.proofs.lemmas.{List.{Concat.{flat_map-cons}, Elements.{recursion_from_All}}, Nat.{from_be_bytes-to_be_bytes_4}}
+use Rattle.osek_values.specs.declared.numbers.{TaskNo.{TaskNo}}
+use Rattle.osek_standard.specs.{declared.{app.App.{App}, point.Point.{Point}}}
 use Rattle.abstract_state.specs.declared.value.{Component.{Component}, PartValue.{PartValue, TheVariants.{OfEvent, OfAlarm}}}
 use Rattle.abstract_state.specs.declared.value.Component.TheVariants as component
-use Rattle.abstract_state.specs.{declared.table.ValueSet.{ValueSet}, ValueOrder.{part_order, IsAscending}, Components.{component_at, IsPart, IsComponent}}
-use Rattle.abstract_state.specs.Domains.{IsWithin, domain_of, domain_size, resources_in, takable_resources}
-use Rattle.abstract_state.proofs.{ClosedLaws.{no_internal, takes_once}, ComponentLaws.{task_counted, task_at_its_number}, DomainValues.{allowed_within, domain_counted}, HeightLaws.{takable_counted, takable_few}, SoundSets.{most_members}}
+use Rattle.abstract_state.specs.{ValueOrder.{part_order, IsAscending}, Components.{IsPart, IsComponent}}
 use Rattle.table_codec.specs.{declared.fault.Fault.{Fault}, Spelling.{value_bytes, listed, set_bytes}}
 use Rattle.table_codec.specs.{Faults.{IsNextFault, IsListFault, IsListedFault, bad_count, count_cut, count_none, bad_list, IsSetFault, IsGoodSet}, Sets.{IsNextValue}}
 use Rattle.table_codec.proofs.{Ascends.{sorted_prefix}, FlagSets.{event_set, alarm_set, one_flags, flags_clash, one_flags_fault}, Sequences.{Runs, one_run, no_fault, one_fault}}
@@ -45,44 +41,15 @@ module _ (app : App) (p : Point) (t : TaskNo) (known : t.0 < length app.tasks) w
         runs_of_values (before ++ v ∷ []) vs (flat_map value_bytes vs ++ rest) rest again all.1 refl,
       )
 
-  -- with one activation and no INTERNAL resource
-  task_size : domain_size (domain_of app k) ≡ 1 + (the_task app t.0).count + (the_task app t.0).count * stacks (takable_count app)
-  task_size =
-      let count = (the_task app t.0).count in
-      let internal = (the_task app t.0).internal in
-      let activation = (the_task app t.0).activation in
-      let takable = takable_resources app in
-      let size : Option ResNo → ℕ → ℕ → ℕ = λ o a n. 1 + count + (if is_some o then 2 * (count * stacks n * a) else count * stacks n * a) in
-      let outside : size internal activation (length (resources_in takable)) ≡ size None activation (length (resources_in takable)) = ap (λ (o : Option ResNo). size o activation (length (resources_in takable))) (no_internal app t.0) in
-      let once : size None activation (length (resources_in takable)) ≡ size None 1 (length (resources_in takable)) = ap (λ (a : ℕ). size None a (length (resources_in takable))) (takes_once app t.0 known) in
-      let by_count : size None 1 (length (resources_in takable)) ≡ size None 1 (takable_count app) = ap (size None 1) (takable_counted app) in
-      outside ∙ once ∙ by_count ∙ omega arith
-
-  -- a task has fewer values than a count can say
-  few_values : (vs : List PartValue) → IsGoodSet app p k vs → length vs < 2 ^ 32
-  few_values vs h =
-      let at : component_at app t.0 ≡ k = task_at_its_number app t.0 known in
-      let counted = task_counted app t.0 known in
-      let within : All (IsWithin (domain_of app k)) vs = All-weaker (IsPart app p k) (IsWithin (domain_of app k))
-      (λ v h. subst (λ (c : Component). IsWithin (domain_of app c) v) at (allowed_within app p t.0 v counted (subst (λ (c : Component). IsPart app p c v) (sym at) h))) vs h.allowed in
-      let most = most_members (set_with vs) (domain_counted (domain_of app k)) (record { within = within; ascending = h.ascending }) in
-      let owner = app.valid.each_task t.0 no_task known in
-      let blocks : (the_task app t.0).count ≤ 1056 = omega (arith, owner.inside, app.valid.few_blocks) in
-      let deep = few_stacks (takable_count app) (takable_few app) in
-      omega (arith, most, task_size, blocks, mul-le-mul {n₁ = (the_task app t.0).count} {m₁ = stacks (takable_count app)} {n₂ = 1056} {m₂ = 109601} blocks deep)
-    where
-      set_with : List PartValue → ValueSet
-      set_with ws = record { domain = domain_of app k; members = ws }
-
   good_runs : (vs : List PartValue) (bytes rest : List ℕ) → IsGoodSet app p k vs → bytes ≡ flat_map value_bytes vs ++ rest → Runs Reads [] bytes vs rest
-  good_runs vs bytes rest h e = runs_of_values [] vs bytes rest h.ascending (recursion_from_All (IsPart app p k) vs h.allowed) e
+  good_runs vs bytes rest h e = runs_of_values [] vs bytes rest h.values.ascending (recursion_from_All (IsPart app p k) vs h.values.allowed) e
 
   listed_is : (vs : List PartValue) (rest : List ℕ) → listed vs ++ rest ≡ to_be_bytes w32 (length vs) ++ (flat_map value_bytes vs ++ rest)
   listed_is vs rest = append_assoc (to_be_bytes w32 (length vs)) (flat_map value_bytes vs) rest
 
   pub one_listed : (vs ws : List PartValue) (r s : List ℕ) → IsGoodSet app p k vs → IsGoodSet app p k ws → listed vs ++ r ≡ listed ws ++ s → (vs ≡ ws) × (r ≡ s)
   one_listed vs ws r s h g e =
-      let heads = four_heads (length vs) (length ws) (flat_map value_bytes vs ++ r) (flat_map value_bytes ws ++ s) (few_values vs h) (few_values ws g) (sym (listed_is vs r) ∙ e ∙ listed_is ws s) in
+      let heads = four_heads (length vs) (length ws) (flat_map value_bytes vs ++ r) (flat_map value_bytes ws ++ s) h.few g.few (sym (listed_is vs r) ∙ e ∙ listed_is ws s) in
       one_run Reads (one_next app p t known) [] (flat_map value_bytes vs ++ r) r s vs ws (good_runs vs (flat_map value_bytes vs ++ r) r h refl) (good_runs ws (flat_map value_bytes vs ++ r) s g heads.1) heads.0
 
   list_runs : (bytes : List ℕ) (f : Fault) (h : IsListFault app p k bytes f) → Runs Reads [] (flat_map value_bytes h.values ++ h.rest) h.values h.rest
@@ -91,10 +58,10 @@ module _ (app : App) (p : Point) (t : TaskNo) (known : t.0 < length app.tasks) w
   pub listed_clash : (vs : List PartValue) (rest bytes : List ℕ) (f : Fault) → IsGoodSet app p k vs → bytes ≡ listed vs ++ rest → IsListedFault app p k bytes f → ⊥
   listed_clash vs rest bytes f h e (bad_count (count_cut less d)) = omega (arith, less, ap length (e ∙ listed_is vs rest), four_bytes (length vs) (flat_map value_bytes vs ++ rest))
   listed_clash vs rest bytes f h e (bad_count (count_none more is d)) =
-      let heads = four_heads (length vs) 0 (flat_map value_bytes vs ++ rest) more (few_values vs h) (omega arith) (sym (listed_is vs rest) ∙ sym e ∙ is) in
-      omega (arith, h.some, heads.0)
+      let heads = four_heads (length vs) 0 (flat_map value_bytes vs ++ rest) more h.few (omega arith) (sym (listed_is vs rest) ∙ sym e ∙ is) in
+      omega (arith, h.values.some, heads.0)
   listed_clash vs rest bytes f h e (bad_list bad) =
-      let heads = four_heads bad.count (length vs) (flat_map value_bytes bad.values ++ bad.rest) (flat_map value_bytes vs ++ rest) bad.fits (few_values vs h) (sym bad.are ∙ e ∙ listed_is vs rest) in
+      let heads = four_heads bad.count (length vs) (flat_map value_bytes bad.values ++ bad.rest) (flat_map value_bytes vs ++ rest) bad.fits h.few (sym bad.are ∙ e ∙ listed_is vs rest) in
       no_fault Reads (one_next app p t known) Fails (next_clash app p t known) [] (flat_map value_bytes bad.values ++ bad.rest) bad.rest rest bad.values vs f
       (list_runs bytes f bad) bad.next (good_runs vs (flat_map value_bytes bad.values ++ bad.rest) rest h heads.1) (omega (arith, bad.few, heads.0))
 
@@ -122,13 +89,13 @@ module _ (app : App) (p : Point) (t : TaskNo) (known : t.0 < length app.tasks) w
 module _ (app : App) (p : Point) where
   pub one_set : (k : Component) → IsComponent app k → (vs ws : List PartValue) (r s : List ℕ) → IsGoodSet app p k vs → IsGoodSet app p k ws → set_bytes k vs ++ r ≡ set_bytes k ws ++ s → (vs ≡ ws) × (r ≡ s)
   one_set (component.Task t) is vs ws r s h g e = one_listed app p t is vs ws r s h g e
-  one_set (component.Event t j) is vs ws r s h g e = one_flags OfEvent vs ws r s (event_set app p t j vs h) (event_set app p t j ws g) e
-  one_set (component.Alarm a) is vs ws r s h g e = one_flags OfAlarm vs ws r s (alarm_set app p a vs h) (alarm_set app p a ws g) e
+  one_set (component.Event t j) is vs ws r s h g e = one_flags OfEvent vs ws r s (event_set app p t j vs h.values) (event_set app p t j ws g.values) e
+  one_set (component.Alarm a) is vs ws r s h g e = one_flags OfAlarm vs ws r s (alarm_set app p a vs h.values) (alarm_set app p a ws g.values) e
 
   pub set_clash : (k : Component) → IsComponent app k → (vs : List PartValue) (rest bytes : List ℕ) (f : Fault) → IsGoodSet app p k vs → bytes ≡ set_bytes k vs ++ rest → IsSetFault app p k bytes f → ⊥
   set_clash (component.Task t) is vs rest bytes f h e bad = listed_clash app p t is vs rest bytes f h e bad
-  set_clash (component.Event t j) is vs rest bytes f h e bad = flags_clash OfEvent vs rest bytes f (event_set app p t j vs h) e bad
-  set_clash (component.Alarm a) is vs rest bytes f h e bad = flags_clash OfAlarm vs rest bytes f (alarm_set app p a vs h) e bad
+  set_clash (component.Event t j) is vs rest bytes f h e bad = flags_clash OfEvent vs rest bytes f (event_set app p t j vs h.values) e bad
+  set_clash (component.Alarm a) is vs rest bytes f h e bad = flags_clash OfAlarm vs rest bytes f (alarm_set app p a vs h.values) e bad
 
   pub one_set_fault : (k : Component) → IsComponent app k → (bytes : List ℕ) (f g : Fault) → IsSetFault app p k bytes f → IsSetFault app p k bytes g → f ≡ g
   one_set_fault (component.Task t) is bytes f g h d = one_listed_fault app p t is bytes f g h d

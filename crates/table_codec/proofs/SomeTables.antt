@@ -5,10 +5,10 @@ use Rattle.std.proofs.lemmas.{Bool.{cases_lt}, List.{length_push, length-map, ta
 use Rattle.osek_standard.specs.{declared.{app.App.{App}, point.Point.{Point}}, Points.{points_in_order}}
 use Rattle.osek_standard.specs.declared.point.Point.TheVariants as point
 use Rattle.abstract_state.specs.declared.table.{ValueSet.{ValueSet}, PlainEntry.{PlainEntry}, TableRow.{TableRow}, PlainTable.{PlainTable}}
-use Rattle.abstract_state.specs.{Components.{components, component_at, component_count}, Domains.{domain_of, HasMasks}, Written.{IsWritten}}
+use Rattle.abstract_state.specs.{Components.{components, component_at, component_count}, Domains.{domain_of, HasMasks}}
 use Rattle.abstract_state.proofs.ComponentLaws.{component_known}
 use Rattle.numbered_sets.specs.PlainTables.{row_at}
-use Rattle.table_codec.specs.{declared.fault.{Fault.{Fault}, TableFault.{TableFault}, TableRule.TheVariants.{K1, K2, K3, K5}}, Spelling.{magic, set_bytes, entry_bytes, spelling}}
+use Rattle.table_codec.specs.{declared.fault.{Fault.{Fault}, TableFault.{TableFault}, TableRule.TheVariants.{K1, K2, K3, K5}}, Spelling.{magic, set_bytes, entry_bytes, spelling, IsSpellable}}
 use Rattle.table_codec.specs.Faults.{fault_at, IsSetFault, IsEntryFault, IsPointFault, IsRowFault, IsTableFault, bad_magic, magic_cut, other_magic, bad_row, IsFirstFault, located}
 use Rattle.table_codec.specs.{Sets.{IsReadEntry}, Rows.{IsReadRow, IsReadTable}}
 use Rattle.table_codec.proofs.{Decisions.{Decided, decide_bytes, AreBytes, bytes_behind}, SomeValues.{SetFound, set_found}}
@@ -97,11 +97,11 @@ module _ (app : App) (masks : HasMasks app) (bytes : List ℕ) where
 -- ---- the table
 
 abbrev TableFound : App → List ℕ → Type 0
-TableFound app bytes = ((table : PlainTable) × IsWritten app table × (spelling app table ≡ bytes)) ⊎ ((f : Fault) × IsTableFault app bytes f)
+TableFound app bytes = ((table : PlainTable) × IsSpellable app table × (spelling app table ≡ bytes)) ⊎ ((f : Fault) × IsTableFault app bytes f)
 
 module _ (app : App) (masks : HasMasks app) (bytes : List ℕ) where
   by_rest : (rows : List ℕ) → bytes ≡ magic ++ rows → (table : PlainTable) (rest : List ℕ) → IsReadTable app rows rest table → TableFound app bytes
-  by_rest rows e table [] read = inl (table, read.written, spelled_whole app bytes rows [] table e read refl)
+  by_rest rows e table [] read = inl (table, read.spellable, spelled_whole app bytes rows [] table e read refl)
   by_rest rows e table (n ∷ rest) read = inr (fault_at K5 (n ∷ rest), behind_fault app bytes rows (n ∷ rest) table e read (fault_at K5 (n ∷ rest)) (omega arith) refl)
 
   by_rows : (rows : List ℕ) → bytes ≡ magic ++ rows → AreBytes bytes → TableFound app bytes
@@ -120,7 +120,7 @@ module _ (app : App) (masks : HasMasks app) (bytes : List ℕ) where
     | inr long ↦ by_magic long all (decide_bytes (take 8 bytes) magic)
   ]
 
-  pub some_table : AreBytes bytes → ((table : PlainTable) × IsWritten app table × (spelling app table ≡ bytes)) ⊎ ((f : TableFault) × IsFirstFault app bytes f)
+  pub some_table : AreBytes bytes → ((table : PlainTable) × IsSpellable app table × (spelling app table ≡ bytes)) ⊎ ((f : TableFault) × IsFirstFault app bytes f)
   some_table all = elim (table_found all) [
     | inl h ↦ inl h
     | inr bad ↦ inr (located (length bytes) bad.0, record { fault = bad.0; first = bad.1; is = refl })

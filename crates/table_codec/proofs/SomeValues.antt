@@ -143,7 +143,7 @@ module _ (app : App) (x : Shape) (s : IsShape app x) (bytes : List ℕ) (count :
         vs,
         rest,
         record {
-          good = record { some = omega (arith, some, whole); allowed = h.allowed; ascending = h.ascending };
+          good = record { values = record { some = omega (arith, some, whole); allowed = h.allowed; ascending = h.ascending }; few = omega (arith, fits, whole) };
           are = h.are ∙ ap (λ (n : ℕ). to_be_bytes w32 n ++ (flat_map value_bytes vs ++ rest)) (sym whole) ∙ sym (append_assoc (to_be_bytes w32 (length vs)) (flat_map value_bytes vs) rest);
         },
       )

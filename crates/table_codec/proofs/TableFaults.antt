@@ -3,10 +3,10 @@ use Rattle.std.proofs.Common.{◌≡◌, ℕ, ◌<◌, ◌≤◌, List, [], ◌�
 use Rattle.std.specs.{List.{flat_map}, declared.option.Option.{Option}}
 use Rattle.std.proofs.{lemmas.List.{length-map}, Math.Seq.{take-append_seam}}
 use Rattle.osek_standard.specs.declared.{app.App.{App}, point.Point.{Point}}
-use Rattle.abstract_state.specs.{declared.table.{PlainEntry.{PlainEntry}, TableRow.{TableRow}, PlainTable.{PlainTable}}, Written.{IsWritten}}
+use Rattle.abstract_state.specs.{declared.table.{PlainEntry.{PlainEntry}, TableRow.{TableRow}, PlainTable.{PlainTable}}}
 use Rattle.table_codec.specs.declared.fault.{Fault.{Fault}, TableFault.{TableFault}, TableRule.TheVariants.{K5}}
 use Rattle.osek_standard.specs.Points.{points_in_order}
-use Rattle.table_codec.specs.Spelling.{magic, point_bytes, spelling}
+use Rattle.table_codec.specs.Spelling.{magic, point_bytes, spelling, IsSpellable}
 use Rattle.table_codec.specs.Faults.{fault_at, IsRowFault, IsTableFault, bad_magic, magic_cut, other_magic, bad_row, bytes_behind, IsFirstFault, located}
 use Rattle.table_codec.proofs.{Fields.{cancel}, Merging.{found_in, rows_of}, Sequences.{Runs, one_run, no_fault, one_fault}}
 use Rattle.table_codec.proofs.WrittenTables.{Reads, Fails, one_read, read_clash, one_fail, table_runs, fails_at, rows_are}
@@ -28,7 +28,7 @@ module _ (app : App) where
   unfolding all_found
   all_size table = length-map (points_in_order app) (found_in table.rows)
 
-  all_runs : (table : PlainTable) → IsWritten app table → (rest : List ℕ) → Runs (Reads app) [] (all_rows table ++ rest) (all_found table) rest
+  all_runs : (table : PlainTable) → IsSpellable app table → (rest : List ℕ) → Runs (Reads app) [] (all_rows table ++ rest) (all_found table) rest
   unfolding all_rows all_found
   all_runs table written rest = table_runs app table written (points_in_order app) [] rest (sym (append-nil (points_in_order app)))
 
@@ -36,21 +36,21 @@ module _ (app : App) where
   unfolding spelling all_rows
   spelled table rest = append_assoc magic (flat_map (point_bytes app table.rows) (points_in_order app)) rest
 
-  same_found : (a b : PlainTable) → IsWritten app a → IsWritten app b → all_found a ≡ all_found b → a ≡ b
+  same_found : (a b : PlainTable) → IsSpellable app a → IsSpellable app b → all_found a ≡ all_found b → a ≡ b
   unfolding all_found
   same_found a b h g e =
-      ap with_rows (sym (rows_are app a h) ∙ ap (rows_of (points_in_order app)) e ∙ rows_are app b g)
+      ap with_rows (sym (rows_are app a h.written) ∙ ap (rows_of (points_in_order app)) e ∙ rows_are app b g.written)
     where
       with_rows : List TableRow → PlainTable
       with_rows rows = record { rows = rows }
 
-  same_tables : (a b : PlainTable) (bytes x y : List ℕ) → IsWritten app a → IsWritten app b → bytes ≡ all_rows a ++ x → bytes ≡ all_rows b ++ y → (a ≡ b) × (x ≡ y)
+  same_tables : (a b : PlainTable) (bytes x y : List ℕ) → IsSpellable app a → IsSpellable app b → bytes ≡ all_rows a ++ x → bytes ≡ all_rows b ++ y → (a ≡ b) × (x ≡ y)
   same_tables a b bytes x y h g e d =
       let same = one_run (Reads app) (one_read app) [] bytes x y (all_found a) (all_found b)
       (subst (λ (l : List ℕ). Runs (Reads app) [] l (all_found a) x) (sym e) (all_runs a h x)) (subst (λ (l : List ℕ). Runs (Reads app) [] l (all_found b) y) (sym d) (all_runs b g y)) (all_size a ∙ sym (all_size b)) in
       (same_found a b h g same.0, same.1)
 
-  pub spelled_once : (a b : PlainTable) (x y : List ℕ) → IsWritten app a → IsWritten app b → spelling app a ++ x ≡ spelling app b ++ y → (a ≡ b) × (x ≡ y)
+  pub spelled_once : (a b : PlainTable) (x y : List ℕ) → IsSpellable app a → IsSpellable app b → spelling app a ++ x ≡ spelling app b ++ y → (a ≡ b) × (x ≡ y)
   spelled_once a b x y h g e = same_tables a b (all_rows a ++ x) x y h g refl (cancel magic (all_rows a ++ x) (all_rows b ++ y) (sym (spelled a x) ∙ e ∙ spelled b y))
 
   -- ---- the rows up to a fault
@@ -59,7 +59,7 @@ module _ (app : App) where
   found_before bytes f bad = map (found_in bad.table.rows) bad.done
 
   fault_runs : (bytes : List ℕ) (f : Fault) (bad : IsRowFault app bytes f) → Runs (Reads app) [] bytes (found_before bytes f bad) bad.rest
-  fault_runs bytes f bad = subst (λ (l : List ℕ). Runs (Reads app) [] l (found_before bytes f bad) bad.rest) (sym bad.are) (table_runs app bad.table bad.written bad.done (bad.point ∷ bad.later) bad.rest bad.points)
+  fault_runs bytes f bad = subst (λ (l : List ℕ). Runs (Reads app) [] l (found_before bytes f bad) bad.rest) (sym bad.are) (table_runs app bad.table bad.spellable bad.done (bad.point ∷ bad.later) bad.rest bad.points)
 
   fault_fails : (bytes : List ℕ) (f : Fault) (bad : IsRowFault app bytes f) → Fails app (found_before bytes f bad) bad.rest f
   fault_fails bytes f bad = fails_at app bad.done bad.point bad.later (found_before bytes f bad) bad.rest f bad.points (length-map bad.done (found_in bad.table.rows)) bad.next
@@ -67,7 +67,7 @@ module _ (app : App) where
   fewer : (bytes : List ℕ) (f : Fault) (bad : IsRowFault app bytes f) (table : PlainTable) → length (found_before bytes f bad) < length (all_found table)
   fewer bytes f bad table = omega (arith, all_size table, length-map bad.done (found_in bad.table.rows), ap (λ (ps : List Point). length ps) bad.points, length-append bad.done (bad.point ∷ bad.later))
 
-  row_clash : (bytes rest : List ℕ) (f : Fault) (table : PlainTable) → IsWritten app table → bytes ≡ all_rows table ++ rest → IsRowFault app bytes f → ⊥
+  row_clash : (bytes rest : List ℕ) (f : Fault) (table : PlainTable) → IsSpellable app table → bytes ≡ all_rows table ++ rest → IsRowFault app bytes f → ⊥
   row_clash bytes rest f table written e bad =
       no_fault (Reads app) (one_read app) (Fails app) (read_clash app) [] bytes bad.rest rest (found_before bytes f bad) (all_found table) f
       (fault_runs bytes f bad) (fault_fails bytes f bad) (subst (λ (l : List ℕ). Runs (Reads app) [] l (all_found table) rest) (sym e) (all_runs table written rest)) (fewer bytes f bad table)
@@ -87,7 +87,7 @@ module _ (app : App) where
   spelled_prefix : (bytes : List ℕ) (table : PlainTable) (rest : List ℕ) → bytes ≡ spelling app table ++ rest → take 8 bytes ≡ magic
   spelled_prefix bytes table rest e = ap (take 8) (e ∙ spelled table rest) ∙ magic_prefix (all_rows table ++ rest)
 
-  pub no_first : (bytes : List ℕ) (table : PlainTable) (f : Fault) → IsWritten app table → bytes ≡ spelling app table ++ [] → IsTableFault app bytes f → ⊥
+  pub no_first : (bytes : List ℕ) (table : PlainTable) (f : Fault) → IsSpellable app table → bytes ≡ spelling app table ++ [] → IsTableFault app bytes f → ⊥
   no_first bytes table f written e (bad_magic (magic_cut less d)) = omega (arith, less, spelled_size bytes table [] e)
   no_first bytes table f written e (bad_magic (other_magic most differs d)) = differs (spelled_prefix bytes table [] e)
   no_first bytes table f written e (bad_row rows is bad) = row_clash rows [] f table written (behind_magic bytes rows table [] is e) bad
@@ -117,7 +117,7 @@ module _ (app : App) where
 
   -- ---- for callers
 
-  pub no_first_fault : (table : PlainTable) (f : TableFault) → IsWritten app table → IsFirstFault app (spelling app table) f → ⊥
+  pub no_first_fault : (table : PlainTable) (f : TableFault) → IsSpellable app table → IsFirstFault app (spelling app table) f → ⊥
   no_first_fault table f written h = no_first (spelling app table) table h.fault written (sym (append-nil (spelling app table))) h.first
 
   pub one_first_fault : (bytes : List ℕ) (f g : TableFault) → IsFirstFault app bytes f → IsFirstFault app bytes g → f ≡ g

@@ -15,7 +15,7 @@ use Rattle.numbered_sets.specs.{Numbers.{Numbers, has_number}, Pools.{Values, va
 use Rattle.numbered_sets.specs.{declared.table.NumberedRow.{NumberedRow}, PlainTables.{plain_row, plain_rows}}
 use Rattle.table_codec.specs.{declared.ascending.NumberedValue.{NumberedValue}, Ascending.{values_in, AreInOrder}}
 use Rattle.table_codec.specs.Spelling.{value_bytes, flag_number, set_bytes, sets_bytes, members_of, entry_bytes, rows_bytes, point_bytes}
-use Rattle.table_codec.specs.{Writing.{CanBeWritten, IsWritable, AreWritable, AreOrdered, all_in, merged_bytes}, Faults.{IsGoodSet, AreGoodSets}}
+use Rattle.table_codec.specs.{Writing.{CanBeWritten, IsWritable, AreWritable, AreOrdered, all_in, merged_bytes}, Faults.{AreGoodValues}}
 use Rattle.table_codec.proofs.{EntryFaults.{more_sets}, FlagSets.{event_set, alarm_set, flag_range}}
 use Rattle.table_codec.proofs.Merging.{row_number, AreAt, Up, IsFirst, own, behind, first_of, filter_own, filter_other, none_behind, other_number_too}
 
@@ -75,25 +75,25 @@ value_written app p t (OfEvent b) h = absurd h
 value_written app p t (OfAlarm b) h = absurd h
 
 module _ (app : App) (p : Point) where
-  good_writable : (k : Component) (vs : List PartValue) → IsGoodSet app p k vs → IsWritable k vs
+  pub good_writable : (k : Component) (vs : List PartValue) → AreGoodValues app p k vs → IsWritable k vs
   good_writable (component.Task t) vs h = All-weaker (IsPart app p (component.Task t)) CanBeWritten (value_written app p t) vs h.allowed
   good_writable (component.Event t j) vs h = (flag_range OfEvent vs (sum_by flag_number vs) (event_set app p t j vs h)).1
   good_writable (component.Alarm a) vs h = (flag_range OfAlarm vs (sum_by flag_number vs) (alarm_set app p a vs h)).1
 
-  writable_from : (done ks : List Component) (n : ℕ) (sets : List (List PartValue)) → components app ≡ done ++ ks → n ≡ length done → ((c : ℕ) (vs : List PartValue) → slice_get sets c ≡ Some vs → IsGoodSet app p (component_at app (n + c)) vs) → AreWritable ks sets
+  writable_from : (done ks : List Component) (n : ℕ) (sets : List (List PartValue)) → components app ≡ done ++ ks → n ≡ length done → ((c : ℕ) (vs : List PartValue) → slice_get sets c ≡ Some vs → AreGoodValues app p (component_at app (n + c)) vs) → AreWritable ks sets
   writable_from done [] n sets is size good = tt
   writable_from done (k ∷ ks) n [] is size good = tt
   writable_from done (k ∷ ks) n (vs ∷ sets) is size good =
       let first : n + 0 ≡ n = omega arith in
       let here : component_at app n ≡ k
       = ap (λ (cs : List Component). get_or cs n (component.Alarm (alarm_no 0))) is ∙ ap (λ (m : ℕ). get_or (done ++ k ∷ ks) m (component.Alarm (alarm_no 0))) size ∙ get_or-append_seam done k ks (component.Alarm (alarm_no 0)) in (
-        good_writable k vs (subst (λ (c : Component). IsGoodSet app p c vs) here (subst (λ (m : ℕ). IsGoodSet app p (component_at app m) vs) first (good 0 vs refl))),
+        good_writable k vs (subst (λ (c : Component). AreGoodValues app p c vs) here (subst (λ (m : ℕ). AreGoodValues app p (component_at app m) vs) first (good 0 vs refl))),
         writable_from (done ++ k ∷ []) ks (suc n) sets (is ∙ sym (append_assoc done (k ∷ []) ks)) (omega (arith, size, length_push done k))
-            (λ c ws h. let e : n + suc c ≡ suc n + c = omega arith in subst (λ (m : ℕ). IsGoodSet app p (component_at app m) ws) e (good (suc c) ws h)),
+            (λ c ws h. let e : n + suc c ≡ suc n + c = omega arith in subst (λ (m : ℕ). AreGoodValues app p (component_at app m) ws) e (good (suc c) ws h)),
       )
 
-  pub sets_writable : (sets : List (List PartValue)) → AreGoodSets app p sets → AreWritable (components app) sets
-  sets_writable sets good = writable_from [] (components app) 0 sets refl refl (λ c vs h. let e : c ≡ 0 + c = omega arith in subst (λ (n : ℕ). IsGoodSet app p (component_at app n) vs) e (good c vs h))
+  pub sets_writable : (sets : List (List PartValue)) → ((c : ℕ) (vs : List PartValue) → slice_get sets c ≡ Some vs → AreGoodValues app p (component_at app c) vs) → AreWritable (components app) sets
+  sets_writable sets good = writable_from [] (components app) 0 sets refl refl (λ c vs h. let e : c ≡ 0 + c = omega arith in subst (λ (n : ℕ). AreGoodValues app p (component_at app n) vs) e (good c vs h))
 
 -- what is put next, and where that is too much, all of it is
 pub put_on : (out piece more whole after : List ℕ) → out ++ (piece ++ more) ≡ whole → after ≡ out ++ piece → after ++ more ≡ whole

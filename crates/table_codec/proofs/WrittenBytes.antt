@@ -13,7 +13,7 @@ use Rattle.table_codec.specs.declared.ascending.NumberedValue.{NumberedValue}
 use Rattle.osek_standard.specs.Points.{points_in_order}
 use Rattle.table_codec.specs.{Spelling.{magic, members_of, point_bytes, spelling}, Writing.{AreWritable, AreOrdered, all_in, merged_bytes}}
 use Rattle.table_codec.proofs.{Merging.{row_number, Up, AreAt}, PointOrder.{points_up}, WriteLaws.{sets_writable, sets_are, merged_spelled}}
-use Rattle.table_codec.proofs.WrittenTables.{row_good, rows_up, all_at}
+use Rattle.table_codec.proofs.WrittenTables.{row_values, rows_up, all_at}
 
 first_listed : (rows : List NumberedRow) → 0 < length rows → (row : NumberedRow) × Contains rows row
 first_listed [] some = absurd (omega (arith, some))
@@ -60,7 +60,7 @@ module _ (app : App) (table : PlainTable) (written : IsWritten app table) (pool 
         let row = get_or rows k d in
         let listed = listed_at k d lt in
         subst (AreWritable (components app)) (sym (sets_are app pool values (ordered (omega (arith, lt))) row (size row listed)))
-        (sets_writable app row.point (members_of (plain_entry pool row.entry)) (row_good app table written (plain_row pool row) (listed_plain row listed)))
+        (sets_writable app row.point (members_of (plain_entry pool row.entry)) (row_values app table written (plain_row pool row) (listed_plain row listed)))
 
     merged_rows : merged_bytes (components app) values (points_in_order app) rows ≡ flat_map (point_bytes app table.rows) (points_in_order app)
     merged_rows = elim (cases_lt 0 (length rows)) [

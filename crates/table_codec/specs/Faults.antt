@@ -4,10 +4,10 @@ use Rattle.osek_standard.specs.declared.{app.App.{App}, point.Point.{Point}}
 use Rattle.abstract_state.specs.declared.value.{Component.{Component}, PartValue.{PartValue}}
 use Rattle.abstract_state.specs.declared.value.Component.TheVariants as component
 use Rattle.abstract_state.specs.{declared.table.{TableRow.{TableRow}, PlainTable.{PlainTable}}, ValueOrder.{IsAscending}}
-use Rattle.abstract_state.specs.{Components.{components, component_at, component_count, IsPart}, Written.{IsWritten}}
+use Rattle.abstract_state.specs.{Components.{components, component_at, component_count, IsPart}}
 use Rattle.table_codec.specs.declared.fault.{TableRule.{TableRule, TheVariants.{K1, K2, K3, K4, K5}}, Fault.{Fault}, TableFault.{TableFault}}
 use Rattle.osek_standard.specs.Points.{points_in_order}
-use Rattle.table_codec.specs.Spelling.{value_fields, field_width, field_limit, field_bytes, fields_from, value_bytes, sets_bytes, point_bytes, magic, spelling}
+use Rattle.table_codec.specs.Spelling.{value_fields, field_width, field_limit, field_bytes, fields_from, value_bytes, sets_bytes, point_bytes, magic, spelling, IsSpellable}
 
 abbrev pub fault_at : TableRule → List ℕ → Fault
 fault_at rule bytes = record { rule = rule; left = length bytes }
@@ -82,10 +82,15 @@ module _ (app : App) (p : Point) (k : Component) where
   IsSetFault bytes f = IsSetFaultOf k bytes f
 
   -- some values that the component can have, in ascending order
-  pub record IsGoodSet (vs : List PartValue) : Type 0 where
+  pub record AreGoodValues (vs : List PartValue) : Type 0 where
     pub some : 0 < length vs
     pub allowed : All (IsPart app p k) vs
     pub ascending : IsAscending vs
+
+  -- no more of them than a count can say
+  pub record IsGoodSet (vs : List PartValue) : Type 0 where
+    pub values : AreGoodValues vs
+    pub few : length vs < 2 ^ 32
 
 module _ (app : App) (p : Point) where
   -- the sets of components from the first on
@@ -108,7 +113,7 @@ module _ (app : App) (p : Point) where
 -- the points before one are as in a table that has no other rows, and it is faulty
 pub record IsRowFault (app : App) (bytes : List ℕ) (f : Fault) : Type 0 where
   pub table : PlainTable
-  pub written : IsWritten app table
+  pub spellable : IsSpellable app table
   pub done : List Point
   pub point : Point
   pub later : List Point
@@ -127,7 +132,7 @@ pub data IsMagicFault (bytes : List ℕ) (f : Fault) : Type 0 where
 pub data IsTableFault (app : App) (bytes : List ℕ) (f : Fault) : Type 0 where
   bad_magic : IsMagicFault bytes f → IsTableFault app bytes f
   bad_row : (rows : List ℕ) → bytes ≡ magic ++ rows → IsRowFault app rows f → IsTableFault app bytes f
-  bytes_behind : (table : PlainTable) (rest : List ℕ) → IsWritten app table → 0 < length rest → bytes ≡ spelling app table ++ rest → f ≡ fault_at K5 rest → IsTableFault app bytes f
+  bytes_behind : (table : PlainTable) (rest : List ℕ) → IsSpellable app table → 0 < length rest → bytes ≡ spelling app table ++ rest → f ≡ fault_at K5 rest → IsTableFault app bytes f
 
 -- a fault where so many of the bytes are left, at its offset
 abbrev pub located : ℕ → Fault → TableFault

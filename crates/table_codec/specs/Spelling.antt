@@ -1,11 +1,11 @@
 -- The bytes of a table: each point in order, with what the components can be there, numbers big-endian (this project's profile).
-use Rattle.std.specs.{Prelude.{ℕ, suc, ◌^◌, ◌==◌, List, [], ◌∷◌, ◌++◌, length, map, filter, sum_by, if◌then◌else◌, codes}, List.{flat_map, zip}, Int.{to_be_bytes, w16, w32}}
+use Rattle.std.specs.{Prelude.{ℕ, suc, ◌^◌, ◌<◌, ◌==◌, List, [], ◌∷◌, ◌++◌, length, map, filter, sum_by, if◌then◌else◌, codes, All}, List.{flat_map, zip}, Int.{to_be_bytes, w16, w32}}
 use Rattle.osek_values.specs.declared.numbers.ResNo.{ResNo}
 use Rattle.osek_standard.specs.declared.{app.App.{App}, point.Point.{Point}}
 use Rattle.abstract_state.specs.declared.value.{Val.{Val, TheVariants.{Suspended, Live, Waiting}}, Component.{Component}, PartValue.{PartValue, TheVariants.{OfTask, OfEvent, OfAlarm}}}
 use Rattle.abstract_state.specs.declared.value.Component.TheVariants as component
 use Rattle.abstract_state.specs.{declared.table.{ValueSet.{ValueSet}, PlainEntry.{PlainEntry}, TableRow.{TableRow}, PlainTable.{PlainTable}}, Components.{components}}
-use Rattle.abstract_state.specs.{Concrete.{flag_of}, ValueOrder.{flag_field}, Tables.{is_row_of}}
+use Rattle.abstract_state.specs.{Concrete.{flag_of}, ValueOrder.{flag_field}, Tables.{is_row_of}, Written.{IsWritten}}
 use Rattle.osek_standard.specs.Points.{points_in_order}
 
 -- the numbers of the resources on a stack, the first taken first
@@ -86,3 +86,8 @@ magic = codes "OSEKTAB" ++ 1 ∷ []
 -- The one spelling of a table of an application.
 unfoldable pub spelling : App → PlainTable → List ℕ
 spelling app table = magic ++ flat_map (point_bytes app table.rows) (points_in_order app)
+
+-- No set has more values than a count of 32 bits can say, so that the bytes tell the table.
+pub record IsSpellable (app : App) (table : PlainTable) : Type 0 where
+  pub written : IsWritten app table
+  pub few : All (λ (row : TableRow). All (λ (set : ValueSet). length set.members < 2 ^ 32) row.entry.sets) table.rows

@@ -1,9 +1,14 @@
 //! Laws over the definitions.
-ghost use Rattle.table_codec.specs.Laws.{OneSpelling, OneAnswer, OneFault, SomeAnswer};
+ghost use Rattle.table_codec.specs.Laws.{OneSpelling, ShortIsSpellable, OneAnswer, OneFault, SomeAnswer};
 
 /// Equal bytes mean equal tables, whatever follows them; so no spelling begins another.
 pub fn one_spelling()
     ensures { OneSpelling }
+{}
+
+/// The bytes tell a table where they are fewer than a count can say.
+pub fn short_is_spellable()
+    ensures { ShortIsSpellable }
 {}
 
 /// Bytes that spell a table have no fault.

@@ -15,7 +15,7 @@ mod values;
 mod writing;
 
 pub use fault::{TableError, TableFault, TableRule, WriteFault};
-pub use laws::{one_answer, one_fault, one_spelling, some_answer};
+pub use laws::{one_answer, one_fault, one_spelling, short_is_spellable, some_answer};
 pub use numbered_sets::Table;
 pub use reading::read_table;
 pub use writing::write_table;

@@ -3,10 +3,10 @@ ghost use Rattle.std.specs.Prelude.{◌≡◌, ◌++◌, ◌∷◌, [], ◌<◌,
 ghost use Rattle.osek_values.specs.Answers.{Refuses, Answers};
 ghost use Rattle.abstract_state.specs.declared.table.{PlainEntry.{PlainEntry as APlainEntry}, PlainTable.{PlainTable as APlainTable}};
 ghost use Rattle.abstract_state.specs.{Components.{components as components_of, component_count}, Domains.{domains, domains_of, IsSound}};
-ghost use Rattle.abstract_state.specs.{Tables.{set_at}, ValueOrder.{flag_field}, Written.{IsWritten}};
+ghost use Rattle.abstract_state.specs.{Tables.{set_at}, ValueOrder.{flag_field}};
 ghost use Rattle.numbered_sets.specs.{NumberedEntries.{number_domains, numbers_at}, Pools.{pool_domains, IsLonger}};
 ghost use Rattle.numbered_sets.specs.{Views.{plain_entry, AreNumbersOf}, PlainTables.{plain_table, plain_rows, row_at, AreRowsOf}};
-ghost use Rattle.table_codec.specs.{Spelling.{spelling, magic as magic_of}, declared.fault.TableFault.{TableFault as ATableFault}};
+ghost use Rattle.table_codec.specs.{Spelling.{spelling, IsSpellable, magic as magic_of}, declared.fault.TableFault.{TableFault as ATableFault}};
 ghost use Rattle.table_codec.specs.{Faults.{IsMagicFault, IsPresenceFault, IsTableFault, IsRowFault, IsPointFault, IsFirstFault}, Rows.{IsReadRow, IsReadTable}};
 ghost use Rattle.table_codec.specs.Kept.{AreKept, AreKeptBySome, AreNoneKept, IsFilled, entry_after, filled, filled_if, last_entry, numbers_or};
 
@@ -236,7 +236,7 @@ fn new_pool(alloc: Global, app: &App, components: &Seq<Component>) -> Result<Poo
 
 // a table that is all of the bytes
 fn all(alloc: Global, reader: &mut Reader, app: &App) -> Result<Table, ReadError>
-    ensures ok { IfOk result (λ t. IsWritten app.now t × (spelling app.now t ≡ reader.old)) }
+    ensures ok { IfOk result (λ t. IsSpellable app.now t × (spelling app.now t ≡ reader.old)) }
     ensures err { IfErr result (λ e. Refuses e (IsTableFault app.now reader.old)) }
 {
     read_magic(reader)?;
@@ -252,11 +252,11 @@ fn all(alloc: Global, reader: &mut Reader, app: &App) -> Result<Table, ReadError
 
 /// The table that the bytes spell, all of the bytes, or their first fault.
 pub fn read_table(alloc: Global, app: &App, bytes: &[u8]) -> Result<Table, TableError>
-    ensures written { IfOk result (IsWritten app.now) }
+    ensures spellable { IfOk result (IsSpellable app.now) }
     ensures spelled { IfOk result (λ t. spelling app.now t ≡ bytes.now) }
     ensures first { IfErr result (λ e. Refuses e (IsFirstFault app.now bytes.now)) }
     // What is spelled so is answered, and what is the first fault is refused so, unless memory runs out.
-    ensures complete { (t : APlainTable) → IsWritten app.now t → spelling app.now t ≡ bytes.now → Answers result (Ok t) }
+    ensures complete { (t : APlainTable) → IsSpellable app.now t → spelling app.now t ≡ bytes.now → Answers result (Ok t) }
     ensures exact { (f : ATableFault) → IsFirstFault app.now bytes.now f → Answers result (Err f) }
 {
     let mut reader = Reader::new(bytes);

@@ -1,7 +1,7 @@
 -- A list of tokens has at most one code or first fault.
 use Rattle.std.proofs.Common.{◌≡◌, ℕ, true, false, List, [], ◌∷◌, refl, sym, ap, ◌∙◌, subst}
 use Rattle.std.specs.Prelude.{Some, Result, Ok, Err}
-use Rattle.osek_values.specs.declared.refusal.{Rule.{Rule, TheVariants.{Lex, Syntax, Oil, Code as of_code}}, SyntaxRule.{SyntaxRule}, CodeRule.TheVariants.{C1, C2, C3, C4, C6, C7, C8, C9}}
+use Rattle.osek_values.specs.declared.refusal.{Rule.{Rule, TheVariants.{Lex, Syntax, Oil, Code as of_code}}, SyntaxRule.{SyntaxRule}, CodeRule.TheVariants.{C1, C2, C3, C4, C6, C7, C8, C9, C10}}
 use Rattle.osek_values.specs.declared.limits.TheConstants.{MAX_CODE_DEPTH}
 use Rattle.oil_lexer.specs.{declared.token.{Mark.TheVariants.{Semicolon}, Token.{Token}}, Tokens.{name, mark}}
 use Rattle.oil_lexer.proofs.OneFault.{same_fault, no_fault}
@@ -142,6 +142,7 @@ code_or_fault tokens code (of_code C4) line h f = f
 code_or_fault tokens code (of_code C6) line h f = f
 code_or_fault tokens code (of_code C7) line h f = f
 code_or_fault tokens code (of_code C8) line h f = f
+code_or_fault tokens code (of_code C10) line h f = f
 code_or_fault tokens code (Lex rule) line h f = f
 code_or_fault tokens code (Oil rule) line h f = f
 
@@ -165,6 +166,7 @@ same_as_syntax tokens rule (of_code C4) line line' f g = absurd g
 same_as_syntax tokens rule (of_code C6) line line' f g = absurd g
 same_as_syntax tokens rule (of_code C7) line line' f g = absurd g
 same_as_syntax tokens rule (of_code C8) line line' f g = absurd g
+same_as_syntax tokens rule (of_code C10) line line' f g = absurd g
 same_as_syntax tokens rule (Lex rule') line line' f g = absurd g
 same_as_syntax tokens rule (Oil rule') line line' f g = absurd g
 
@@ -178,6 +180,7 @@ same_as_work tokens (of_code C4) line line' f g = absurd g
 same_as_work tokens (of_code C6) line line' f g = absurd g
 same_as_work tokens (of_code C7) line line' f g = absurd g
 same_as_work tokens (of_code C8) line line' f g = absurd g
+same_as_work tokens (of_code C10) line line' f g = absurd g
 same_as_work tokens (Lex rule') line line' f g = absurd g
 same_as_work tokens (Oil rule') line line' f g = absurd g
 
@@ -191,6 +194,7 @@ same_first tokens (of_code C4) rule' line line' f g = absurd f
 same_first tokens (of_code C6) rule' line line' f g = absurd f
 same_first tokens (of_code C7) rule' line line' f g = absurd f
 same_first tokens (of_code C8) rule' line line' f g = absurd f
+same_first tokens (of_code C10) rule' line line' f g = absurd f
 same_first tokens (Lex rule) rule' line line' f g = absurd f
 same_first tokens (Oil rule) rule' line line' f g = absurd f
 

@@ -11,7 +11,7 @@ use oil_tree::parse;
 use osek_standard::{
     AlarmService, App, Block, Call, Counter, Isr, Kind, PlainService, Task, TaskService,
 };
-use osek_values::{AlarmNo, BlockNo, CodeRule, Lock, Mask, TaskNo};
+use osek_values::{AlarmNo, BlockNo, CodeRule, Lock, Mask, ResNo, TaskNo};
 use std::alloc::{AllocError, Global};
 use task_code::{Code, parse_code};
 
@@ -199,12 +199,12 @@ fn locks_masks_and_ticks(rt: HostRuntime) {
     assert!(rt; gives(rt.alloc(), oil, text, locks_and_ticks_stand));
 }
 
-/// A system with a task, a resource, and an ISR of either category.
+/// A system with a task, a resource, an INTERNAL resource, and an ISR of either category.
 const OIL: &[u8] =
-    b"CPU c { OS os; TASK T { PRIORITY = 1; }; RESOURCE R; ISR I { CATEGORY = 2; }; ISR J { CATEGORY = 1; }; };";
+    b"CPU c { OS os; TASK T { PRIORITY = 1; }; RESOURCE R; RESOURCE G { RESOURCEPROPERTY = INTERNAL; }; ISR I { CATEGORY = 2; }; ISR J { CATEGORY = 1; }; };";
 
 /// Code texts beside it, with what comes of them.
-const TEXTS: [(&[u8], Outcome); 7] = [
+const TEXTS: [(&[u8], Outcome); 10] = [
     (b"TASK(T) { } ISR(I) { }", Outcome::Blocks(2)),
     // a lesser rule outranks a lesser line
     (b"TASK(T) { } ISR(J) { }", Outcome::Faulty(CodeRule::C1, 0)),
@@ -228,6 +228,19 @@ const TEXTS: [(&[u8], Outcome); 7] = [
         b"TASK(T) { SuspendAllInterrupts();\nSchedule(); } ISR(I) { }",
         Outcome::Faulty(CodeRule::C7, 2),
     ),
+    // an INTERNAL resource, on the line of its name, and in an ISR on that of the call
+    (
+        b"TASK(T) { GetResource(\nG); } ISR(I) { }",
+        Outcome::Faulty(CodeRule::C10, 2),
+    ),
+    (
+        b"TASK(T) { GetResource(R);\nReleaseResource(G); } ISR(I) { }",
+        Outcome::Faulty(CodeRule::C10, 2),
+    ),
+    (
+        b"TASK(T) { } ISR(I) {\nGetResource(\nG); }",
+        Outcome::Faulty(CodeRule::C6, 2),
+    ),
 ];
 
 /// The first text of which something else comes.
@@ -243,6 +256,25 @@ fn first_wrong(alloc: Global) -> Option<usize> {
 #[test]
 fn least_faults(rt: HostRuntime) {
     assert_eq!(rt; first_wrong(rt.alloc()), None);
+}
+
+fn are_grouped(tasks: &[Task]) -> bool {
+    tasks.len() == 2
+        && tasks[0].activation == 255
+        && tasks[0].internal == Some(ResNo(0))
+        && tasks[1].activation == 1
+        && tasks[1].internal.is_none()
+}
+
+fn is_grouped(app: &App) -> bool {
+    are_grouped(app.tasks.as_slice())
+}
+
+#[test]
+fn activations_and_an_internal_resource(rt: HostRuntime) {
+    let oil =
+        b"CPU c { OS os; RESOURCE G { RESOURCEPROPERTY = INTERNAL; }; TASK T1 { PRIORITY = 1; ACTIVATION = 255; RESOURCE = G; }; TASK T2 { PRIORITY = 1; }; };";
+    assert!(rt; gives(rt.alloc(), oil, b"TASK(T1) { } TASK(T2) { }", is_grouped));
 }
 
 /// A task with so many statements, one a line from line 2 on.

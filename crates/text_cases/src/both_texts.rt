@@ -10,11 +10,12 @@ fn fault_of(alloc: Global, oil: &[u8]) -> Option<TextError> {
 
 #[test]
 fn the_least_fault_of_an_oil_text(rt: HostRuntime) {
-    let text = b"CPU c {\nOS os;\nTASK T1 { PRIORITY = 1; };\nTASK T2 { PRIORITY = 1; };\n};\n";
+    let text =
+        b"CPU c {\nOS os;\nTASK T1 { PRIORITY = 1; };\nTASK T2 { PRIORITY = 1; };\nTASK T3 { SCHEDULE = FULL; };\n};\n";
     let fault = Refusal {
         file: TextFile::Oil,
-        line: 4,
-        rule: Rule::Oil(OilRule::O8),
+        line: 5,
+        rule: Rule::Oil(OilRule::O4),
     };
     assert_eq!(rt; fault_of(rt.alloc(), text), Some(TextError::Fault(fault)));
 }

@@ -5,7 +5,7 @@ use app_model::{
 use oil_lexer::tokens;
 use oil_model::{ModelError, one_answer, resolve};
 use oil_tree::parse;
-use osek_values::{Mask, Memory, OilRule, TaskNo};
+use osek_values::{Mask, Memory, OilRule, ResNo, TaskNo};
 use std::alloc::{AllocError, Global};
 
 /// What comes of a text.
@@ -46,7 +46,7 @@ fn outcome_of(alloc: Global, text: &[u8]) -> Outcome {
 }
 
 /// Texts with what comes of them.
-const TEXTS: [(&[u8], Outcome); 40] = [
+const TEXTS: [(&[u8], Outcome); 48] = [
     // nothing but the OS object
     (b"CPU c { OS os; };", Outcome::Declares(0, 1, 1, 0)),
     // a kind that there isn't
@@ -131,13 +131,30 @@ const TEXTS: [(&[u8], Outcome); 40] = [
         b"CPU c { OS os { USERESSCHEDULER = FALSE; }; TASK T { PRIORITY = 1;\nRESOURCE = RES_SCHEDULER; }; };",
         Outcome::Faulty(OilRule::O7, 2),
     ),
-    // priorities
+    // several tasks of one priority
     (
         b"CPU c {\nOS os;\nTASK T1 { PRIORITY = 1; };\nTASK T2 { PRIORITY = 1; };\n};",
-        Outcome::Faulty(OilRule::O8, 4),
+        Outcome::Declares(2, 1, 1, 0),
     ),
+    // several activations, of a basic task alone
     (
         b"CPU c { OS os; TASK T { PRIORITY = 1;\nACTIVATION = 2; }; };",
+        Outcome::Declares(1, 1, 1, 0),
+    ),
+    (
+        b"CPU c { OS os; TASK T { PRIORITY = 1;\nACTIVATION = 255; }; };",
+        Outcome::Declares(1, 1, 1, 0),
+    ),
+    (
+        b"CPU c { OS os; TASK T { PRIORITY = 1;\nACTIVATION = 0; }; };",
+        Outcome::Faulty(OilRule::O9, 2),
+    ),
+    (
+        b"CPU c { OS os; TASK T { PRIORITY = 1;\nACTIVATION = 256; }; };",
+        Outcome::Faulty(OilRule::O9, 2),
+    ),
+    (
+        b"CPU c { OS os; EVENT E; TASK T { PRIORITY = 1; EVENT = E;\nACTIVATION = 2; }; };",
         Outcome::Faulty(OilRule::O9, 2),
     ),
     (
@@ -146,7 +163,7 @@ const TEXTS: [(&[u8], Outcome); 40] = [
     ),
     (
         b"CPU c { OS os; RESOURCE R {\nRESOURCEPROPERTY = INTERNAL; }; };",
-        Outcome::Faulty(OilRule::O10, 2),
+        Outcome::Declares(0, 2, 1, 0),
     ),
     (
         b"CPU c { OS os; COUNTER C { MAXALLOWEDVALUE = 9; }; ALARM A { COUNTER = C;\nACTION = ALARMCALLBACK; }; };",
@@ -215,6 +232,23 @@ const TEXTS: [(&[u8], Outcome); 40] = [
     (
         b"CPU c { OS os; RESOURCE R; ISR I { CATEGORY = 1; RESOURCE = R; }; };",
         Outcome::Declares(0, 2, 1, 0),
+    ),
+    // INTERNAL resources: two of a task, where one that is named again is the same, and RES_SCHEDULER
+    (
+        b"CPU c { OS os; RESOURCE G { RESOURCEPROPERTY = INTERNAL; }; RESOURCE H { RESOURCEPROPERTY = INTERNAL; }; TASK T { PRIORITY = 1; RESOURCE = G;\nRESOURCE = G;\nRESOURCE = H; }; };",
+        Outcome::Faulty(OilRule::O16, 3),
+    ),
+    (
+        b"CPU c { OS os; RESOURCE G { RESOURCEPROPERTY = INTERNAL; }; RESOURCE H; TASK T { PRIORITY = 1; RESOURCE = G; RESOURCE = H; RESOURCE = G; }; };",
+        Outcome::Declares(1, 3, 1, 0),
+    ),
+    (
+        b"CPU c { OS os; RESOURCE RES_SCHEDULER {\nRESOURCEPROPERTY = INTERNAL; }; };",
+        Outcome::Faulty(OilRule::O17, 2),
+    ),
+    (
+        b"CPU c { OS os { USERESSCHEDULER = FALSE; }; RESOURCE RES_SCHEDULER {\nRESOURCEPROPERTY = INTERNAL; }; };",
+        Outcome::Declares(0, 1, 1, 0),
     ),
 ];
 
@@ -297,6 +331,44 @@ fn a_file_of_a_car_maker(rt: HostRuntime) {
     assert!(rt; declares_right_numbers(rt.alloc(), text));
     assert!(rt; matches!(ModelError::from(Memory), ModelError::Memory));
     one_answer();
+}
+
+// T2 names G behind an ordinary resource, and T3 names no INTERNAL one.
+fn are_grouped(tasks: &[TaskObject]) -> bool {
+    tasks.len() == 3
+        && tasks[0].activation == 255
+        && tasks[0].internal == Some(ResNo(1))
+        && tasks[1].activation == 1
+        && tasks[1].internal == Some(ResNo(1))
+        && tasks[2].internal.is_none()
+}
+
+// The ceiling is that of the highest task that names the resource.
+fn is_group_resource(resources: &[Resource]) -> bool {
+    resources.len() == 3
+        && !resources[0].internal
+        && resources[1].internal
+        && resources[1].ceiling == 5
+        && !resources[2].internal
+}
+
+fn is_grouped(alloc: Global, text: &[u8]) -> bool {
+    match resolved(alloc, text) {
+        Ok(system) => {
+            let right = are_grouped(system.tasks.as_slice())
+                && is_group_resource(system.resources.as_slice());
+            drop(system);
+            right
+        }
+        Err(_) => false,
+    }
+}
+
+#[test]
+fn activations_and_an_internal_resource(rt: HostRuntime) {
+    let text =
+        b"CPU c { OS os; RESOURCE R; RESOURCE G { RESOURCEPROPERTY = INTERNAL; }; TASK T1 { PRIORITY = 1; ACTIVATION = 255; RESOURCE = G; }; TASK T2 { PRIORITY = 2; RESOURCE = R; RESOURCE = G; }; TASK T3 { PRIORITY = 2; RESOURCE = R; }; };";
+    assert!(rt; is_grouped(rt.alloc(), text));
 }
 
 /// A text of almost 1 MiB: events of different names, and the OS object behind them.

@@ -1,4 +1,4 @@
-use Rattle.std.proofs.Common.{◌≡◌, ℕ, ◌<◌, ◌^◌, ap, sym, subst, arith}
+use Rattle.std.proofs.Common.{◌≡◌, ◌<◌, ◌^◌, ap, sym, subst, arith}
 use Rattle.std.specs.Prelude.{count_ones}
 use Rattle.osek_standard.specs.{declared.objects.Task.{Task}, Apps.{the_task, no_task}}
 use Rattle.abstract_state.proofs.Numbers.{start_after}

@@ -1,5 +1,5 @@
 use Rattle.osek_values.proofs.OneAnswer.{answers}
-use Rattle.block_graph.proofs.OneAnswer.{one, gives_version_1}
+use Rattle.block_graph.proofs.OneAnswer.{one}
 use Rattle.block_graph.proofs.linker.link.Goals as goal
 
 pub returns-clause-right : goal.returns-clause-right
@@ -7,6 +7,3 @@ returns-clause-right c = c.answer.ensures
 
 pub returns-clause-exact : goal.returns-clause-exact
 returns-clause-exact c = answers (one c.args.system c.args.code.now) c.answer.result c.answer.ensures
-
-pub returns-clause-version_1 : goal.returns-clause-version_1
-returns-clause-version_1 c = gives_version_1 _ _ _ c.requires.linkable c.answer.ensures

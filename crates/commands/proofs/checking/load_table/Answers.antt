@@ -11,7 +11,10 @@ use Rattle.commands.proofs.checking.load_table.Goals as goal
 pub returns-in-Ok-read_table-clause-table : goal.returns-in-Ok-read_table-clause-table
 returns-in-Ok-read_table-clause-table g c =
     of_bytes _ _ (λ (b : List ℕ). SpellTable c.args.app.now b c.in-Ok-read_table.table) _ c.in-Ok.ensures.bytes
-    (record { within = c.in-Ok.ensures.within; written = c.in-Ok-read_table.ensures.written; spelled = c.in-Ok-read_table.ensures.spelled ∙ c.deref.ensures.value })
+    (record { within = c.in-Ok.ensures.within; written = c.in-Ok-read_table.ensures.spellable.written; spelled = c.in-Ok-read_table.ensures.spelled ∙ c.deref.ensures.value })
+
+pub returns-in-Ok-read_table-clause-written : goal.returns-in-Ok-read_table-clause-written
+returns-in-Ok-read_table-clause-written g c = c.in-Ok-read_table.ensures.spellable.written
 
 pub returns-in-Err-Fault-clause-stop : goal.returns-in-Err-Fault-clause-stop
 returns-in-Err-Fault-clause-stop g c =

@@ -23,17 +23,17 @@ of_tokens s text tokens (rule.Syntax r) line are fault = (tokens, are, fault)
 of_tokens s text tokens (rule.Oil r) line are fault = absurd fault
 of_tokens s text tokens (rule.Code r) line are fault = (tokens, are, inl fault)
 
-pub returns-in-Err-clause-right : goal.returns-in-Err-clause-right
-returns-in-Err-clause-right c = refuses c.args.system c.args.text.now c.refused.result c.in-Err.fault.line (rule.Lex c.in-Err.fault.rule) c.refused.ensures c.in-Err.ensures.right
+pub returns-in-Err : goal.returns-in-Err
+returns-in-Err c = refuses c.args.system c.args.text.now c.refused.result c.in-Err.fault.line (rule.Lex c.in-Err.fault.rule) c.refused.ensures c.in-Err.ensures.right
 
-pub returns-in-Err-Fault-clause-right : goal.returns-in-Err-Fault-clause-right
-returns-in-Err-Fault-clause-right c =
+pub returns-in-Err-Fault : goal.returns-in-Err-Fault
+returns-in-Err-Fault c =
     refuses c.args.system c.args.text.now c.refused-in-Err-Fault.result c.in-Err-Fault.fault.line c.in-Err-Fault.fault.rule (rw c.in-Err-Fault.field-0-is at c.refused-in-Err-Fault.ensures)
     (of_tokens c.args.system c.args.text.now c.in-Ok.tokens c.in-Err-Fault.fault.rule c.in-Err-Fault.fault.line c.in-Ok.ensures.right
     (rw c.in-Err-Fault.field-0-is at c.in-Err-Fault.ensures.right))
 
-pub returns-in-Ok-link-clause-right : goal.returns-in-Ok-link-clause-right
-returns-in-Ok-link-clause-right c = record {
+pub returns-in-Ok-link : goal.returns-in-Ok-link
+returns-in-Ok-link c = record {
   tokens = c.in-Ok.tokens;
   code = c.in-Ok-parse_code.code;
   are_tokens = c.in-Ok.ensures.right;
@@ -41,7 +41,7 @@ returns-in-Ok-link-clause-right c = record {
   has_app = c.in-Ok-link.ensures.right;
 }
 
-pub returns-in-Err-Fault-link-clause-right : goal.returns-in-Err-Fault-link-clause-right
-returns-in-Err-Fault-link-clause-right c =
+pub returns-in-Err-Fault-link : goal.returns-in-Err-Fault-link
+returns-in-Err-Fault-link c =
     refuses c.args.system c.args.text.now c.refused-in-Err-Fault-link.result c.in-Err-Fault-link.fault.line (rule.Code c.in-Err-Fault-link.fault.rule) c.refused-in-Err-Fault-link.ensures
     (c.in-Ok.tokens, c.in-Ok.ensures.right, inr (c.in-Ok-parse_code.code, c.in-Ok-parse_code.ensures.right, (rw c.in-Err-Fault-link.field-0-is at c.in-Err-Fault-link.ensures.right)))

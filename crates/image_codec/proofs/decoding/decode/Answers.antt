@@ -1,6 +1,6 @@
 use Rattle.std.proofs.Common.{◌∙◌, refl, sym, ap, arith}
 use Rattle.image_codec.specs.BlockReading.{all_at}
-use Rattle.image_codec.proofs.{PartsLaws.{all_takes}, ValidOfGood.{valid_parts, both_parts, alone_parts, fits_parts, sites_parts}}
+use Rattle.image_codec.proofs.{PartsLaws.{all_takes}, ValidOfGood.{valid_parts, alone_parts, fits_parts, sites_parts}}
 use Rattle.image_codec.proofs.{DecodeLaws.{its_spelling, its_reading, its_fault}, GoodOfValid.{only_image, no_image}}
 use Rattle.image_codec.proofs.decoding.decode.Goals as goal
 
@@ -12,7 +12,7 @@ invariant_of-app c =
 pub invariant_of-result : goal.invariant_of-result
 invariant_of-result c =
     let good = (all_takes c.args.bytes.now c.in-Ok.parts _ (λ i. omega (arith, c.type_inv.bytes i)) (ap all_at (sym c.new-reader.ensures) ∙ c.in-Ok.ensures)).good in
-    record { both_versions = both_parts c.in-Ok.parts good _ refl; its_version = alone_parts c.in-Ok.parts good; valid = sites_parts c.in-Ok.parts good _ refl refl }
+    record { its_version = alone_parts c.in-Ok.parts good _ refl; valid = sites_parts c.in-Ok.parts good _ refl refl }
 
 pub returns-in-Ok-clause-spelled : goal.returns-in-Ok-clause-spelled
 returns-in-Ok-clause-spelled c = its_spelling c.args.bytes.now _ _ (λ i. omega (arith, c.type_inv.bytes i)) (ap all_at (sym c.new-reader.ensures) ∙ c.in-Ok.ensures)

@@ -9,9 +9,8 @@ invariant_of-image c =
     let i = c.args.image in
     let site : Site = record { form = c.args.form; known = c.args.known } in
     record {
-      both_versions = i.both_versions;
-      its_version = subst (FitsAlone i.version) (sym c.put.ensures)
-          (subst (λ (v : Version). FitsAlone v (slice_set i.sites 0 (Some site))) (sym c.requires.version) tt);
+      its_version = subst (FitsAlone i.version i.app) (sym c.put.ensures)
+          (subst (λ (v : Version). FitsAlone v i.app (slice_set i.sites 0 (Some site))) (sym c.requires.version) tt);
       valid = subst (AreSites i.app) (sym c.put.ensures)
           (with_site i 0 c.in-Some._site site c.requires.blocks (sym c.site_at.ensures.site ∙ c.in-Some.is) (c.requires.form _));
     }

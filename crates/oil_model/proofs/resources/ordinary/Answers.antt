@@ -1,5 +1,5 @@
 use Rattle.std.proofs.Common.{ℕ, List, ◌++◌, ◌∷◌, [], map, sym, ap, ◌∙◌}
-use Rattle.std.specs.Prelude.{codes, false, filter}
+use Rattle.std.specs.Prelude.{codes, filter}
 use Rattle.oil_system.specs.declared.objects.Resource.{Resource}
 use Rattle.oil_model.specs.{Objects.{is_ordinary, objects_of}, Systems.{resource, ceiling}}
 use Rattle.oil_model.proofs.Collected.{collects, passes_over, collected}
@@ -17,7 +17,7 @@ loop-object-preserved c =
           let ceiling_is = w.ceiling-ceiling.ensures ∙ ap (λ (n : List ℕ). ceiling n (objects_of (codes "TASK") c.args.objects.now)) w.as_bytes.ensures.bytes in
           collects (is_ordinary c.args.scheduler) (resource (objects_of (codes "TASK") c.args.objects.now)) c.args.objects.now c.loop-object.object-index before c.loop-object.invariant
           c.object-item.result c.loop-object-test.true c.object-item.is (sym c.is_ordinary.ensures ∙ w.if-is_ordinary.true)
-          ((λ i. (w.found-is i).items) ∙ w.in_ok-push.ensures.items ∙ (λ i. before ++ record { name = w.in_ok-name.ensures i; ceiling = ceiling_is i; internal = false; interrupt_ceiling = 0 } ∷ []))
+          ((λ i. (w.found-is i).items) ∙ w.in_ok-push.ensures.items ∙ (λ i. before ++ record { name = w.in_ok-name.ensures i; ceiling = ceiling_is i; internal = w.is_internal.ensures i; interrupt_ceiling = 0 } ∷ []))
       | else-is_ordinary w ↦ passes_over (is_ordinary c.args.scheduler) (resource (objects_of (codes "TASK") c.args.objects.now)) c.args.objects.now c.loop-object.object-index before c.loop-object.invariant c.object-item.result c.loop-object-test.true c.object-item.is (sym c.is_ordinary.ensures ∙ w.if-is_ordinary.false) (λ i. (w.found-is i).items)
     ]
 

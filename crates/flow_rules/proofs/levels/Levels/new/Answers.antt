@@ -1,5 +1,5 @@
 use Rattle.std.proofs.Common.{◌+◌, sym, subst, arith}
-use Rattle.flow_rules.proofs.LevelLaws.{AreLevelsUpTo, levels_next, all_levels}
+use Rattle.flow_rules.proofs.{InsideLevels.{insides_begun}, LevelLaws.{AreLevelsUpTo, levels_next, all_levels}}
 use Rattle.flow_rules.proofs.levels.Levels.new.Goals as goal
 
 pub loop-task-preserved : goal.loop-task-preserved
@@ -9,5 +9,8 @@ loop-task-preserved c =
 
 pub returns : goal.returns
 returns c =
-    all_levels c.args.app.now c.args.pool.now (record { tasks = c.loop-task.tasks }) c.loop-task.task c.loop-task.invariant
-    (omega (arith, c.loop-task-test.false, c.loop-task.auto.task-end, c.len-task-end.ensures))
+    let app = c.args.app.now in
+    let pool = c.args.pool.now in
+    let insides = c.in_ok-insides.insides in
+    all_levels app pool (record { tasks = c.loop-task.tasks; insides = insides }) c.loop-task.task c.loop-task.invariant
+    (omega (arith, c.loop-task-test.false, c.loop-task.auto.task-end, c.len-task-end.ensures)) (insides_begun app pool insides c.in_ok-insides.ensures)

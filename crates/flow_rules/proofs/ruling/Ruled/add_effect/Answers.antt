@@ -1,18 +1,39 @@
-use Rattle.std.proofs.Common.{◌≡◌, ◌∷◌, ◌++◌, [], ◌∙◌, List, map, flat_map, sym, ap, subst}
-use Rattle.std.specs.Prelude.{Contains}
+use Rattle.std.proofs.Common.{◌≡◌, ◌++◌, [], ◌∙◌, List, length, map, flat_map, sym, ap, subst}
+use Rattle.std.specs.{Prelude.{Contains, IfSome, IfNone}, declared.option.Option.{Option}}
 use Rattle.std.proofs.lemmas.Result.{on_ok_weaker}
-use Rattle.abstract_state.specs.{declared.table.PlainEntry.{PlainEntry}, Domains.{domains}}
-use Rattle.flow_model.specs.declared.{case.OutcomeCase.{OutcomeCase}, change.Change.{Change}}
+use Rattle.abstract_state.specs.{declared.table.PlainEntry.{PlainEntry}, Components.{component_count}, Domains.{domains}}
+use Rattle.osek_standard.proofs.Members.{contained_among}
+use Rattle.flow_model.specs.{declared.{case.OutcomeCase.{OutcomeCase}, change.Change.{Change}}, Rules.{Applies, HasNone}}
+use Rattle.numbered_sets.specs.{declared.numbered_entry.NumberedEntry.{NumberedEntry}, Views.{plain_entry}}
 use Rattle.numbered_sets.proofs.ViewLaws.{same_domains}
-use Rattle.flow_rules.specs.{Assembly.{rule_of}, declared.group.ExitGroup.{ExitGroup}, Groups.{all_exits}, Leaving.{AddsEffects}, Ruling.{outcomes_by}}
-use Rattle.flow_rules.proofs.RuledExits.{exits_ruled}
+use Rattle.flow_exits.specs.Leaving.{effect_rule}
+use Rattle.flow_rules.specs.{Assembly.{rule_of}, declared.group.ExitGroup.{ExitGroup}, Groups.{all_exits, AreKnownGroups}, Deciding.{AddsFor, IsAny}, Leaving.{IsAfter}, Ruling.{outcomes_by}}
+use Rattle.flow_rules.proofs.{LeavingPoints.{sets_counted}, RuledExits.{exits_ruled, none_ruled}, SettledGroups.{decided_known}}
 use Rattle.flow_rules.proofs.ruling.Ruled.add_effect.Goals as goal
 
 pub outcomes-requires : goal.outcomes-requires
 outcomes-requires c = ap domains (sym c.requires.plain) ∙ same_domains c.args.pool.now 0 c.args.self.now.numbers.now.sets ∙ c.requires.domains
 
+pub push_decided-requires : goal.push_decided-requires
+push_decided-requires c =
+    let is = subst (λ (o : Option NumberedEntry). IfSome o (IsAfter c.args.self.now.app.now c.args.effect.now c.args.self.now.numbers.now c.args.pool.now c.after.new.pool c.after.new.levels)) c.in-Some.is c.in_ok-after.ensures.some in
+    record { stay = c.requires.stays; levels = is.all; whole = is.whole }
+
 pub exits-requires : goal.exits-requires
-exits-requires c = λ g m. c.in_ok-push_effect.ensures.added.known g (subst (λ (gs : List ExitGroup). Contains gs g) c.as_slice.ensures.value m)
+exits-requires c =
+    let pool = c.after.new.pool in
+    let none : AreKnownGroups pool c.new-groups.result.items = subst (AreKnownGroups pool) (sym c.new-groups.ensures.items) (λ g m. absurd (contained_among [] g m)) in
+    λ g m. decided_known c.args.self.now.app.now pool c.args.effect.now.leaving c.in-Some.after c.new-groups.result.items c.push_decided.new.groups.items c.in_ok-push_decided.ensures none g
+    (subst (λ (gs : List ExitGroup). Contains gs g) c.as_slice.ensures.value m)
+
+pub returns-in_default-clause-added : goal.returns-in_default-clause-added
+returns-in_default-clause-added c =
+    let app = c.args.self.now.app.now in
+    let pool = c.args.pool.now in
+    let rule = effect_rule c.args.effect.now in
+    let size = sets_counted app pool c.args.self.now.numbers.now c.requires.domains in
+    let none : HasNone rule (plain_entry pool c.args.self.now.numbers.now) = subst (λ (o : Option NumberedEntry). IfNone o (HasNone rule (plain_entry pool c.args.self.now.numbers.now))) c.in_default.is c.in_ok-after.ensures.none in
+    none_ruled app c.args.self.now.from.now c.args.effect.now c.args.rules.now (subst (λ (e : PlainEntry). length e.sets ≡ component_count app) c.requires.plain size) (subst (HasNone rule) c.requires.plain none)
 
 pub returns-clause-added : goal.returns-clause-added
 returns-clause-added c =
@@ -21,14 +42,16 @@ returns-clause-added c =
     let effect = c.args.effect.now in
     let before = c.args.rules.now in
     let pool = c.args.pool.now in
-    let after = c.push_effect.new.pool in
-    let groups = c.push_effect.new.groups.items in
+    let after = c.after.new.pool in
+    let made = c.in-Some.after in
+    let groups = c.push_decided.new.groups.items in
     let exits = c.in_ok-exits.exits in
-    let h : AddsEffects app from (effect ∷ []) pool [] after groups =
-    subst (λ (gs : List ExitGroup). AddsEffects app from (effect ∷ []) pool gs after groups) c.new-groups.ensures.items
-    (subst (λ (e : PlainEntry). AddsEffects app e (effect ∷ []) pool c.new-groups.result.items after groups) c.requires.plain c.in_ok-push_effect.ensures.added) in
+    let is = subst (λ (o : Option NumberedEntry). IfSome o (IsAfter app effect c.args.self.now.numbers.now pool after c.after.new.levels)) c.in-Some.is c.in_ok-after.ensures.some in
+    let h : AddsFor app after effect.leaving made IsAny [] groups = subst (λ (gs : List ExitGroup). AddsFor app after effect.leaving made IsAny gs groups) c.new-groups.ensures.items c.in_ok-push_decided.ensures in
+    let size = subst (λ (e : PlainEntry). length e.sets ≡ component_count app) c.requires.plain (sets_counted app pool c.args.self.now.numbers.now c.requires.domains) in
+    let applies = subst (λ (e : PlainEntry). Applies (effect_rule effect) e (plain_entry after made)) c.requires.plain is.applies in
     let cases_are : c.as_slice-3.result.now ≡ flat_map (outcomes_by app effect.changes from) exits =
     c.as_slice-3.ensures ∙ c.in_ok-outcomes.ensures ∙ ap (λ (xs : List Change). flat_map (outcomes_by app xs from) c.as_slice-2.result.now) c.as_slice-changes.ensures ∙ ap (flat_map (outcomes_by app effect.changes from)) c.as_slice-2.ensures in
     on_ok_weaker c.add_rules.result
-    (λ added. exits_ruled app from effect pool after groups exits before c.add_rules.new.rules h (c.in_ok-exits.ensures ∙ ap (all_exits after) c.as_slice.ensures.value)
-    (added ∙ ap (λ (xs : List OutcomeCase). before ++ map (rule_of effect) xs) cases_are)) c.add_rules.ensures
+    (λ added. exits_ruled app from effect after made groups exits before c.add_rules.new.rules size applies h (c.in_ok-exits.ensures ∙ ap (all_exits after) c.as_slice.ensures.value)
+    (added ∙ ap (λ (xs : List OutcomeCase). before ++ map (rule_of app effect) xs) cases_are)) c.add_rules.ensures

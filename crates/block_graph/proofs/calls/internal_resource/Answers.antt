@@ -1,0 +1,8 @@
+use Rattle.task_code.specs.declared.tree.Body.{Body}
+use Rattle.block_graph.specs.Rules.{from_calls, internal_in}
+use Rattle.oil_model.proofs.Leasts.{flat_map_step}
+use Rattle.block_graph.proofs.calls.internal_resource.Goals as goal
+
+pub loop-body-preserved : goal.loop-body-preserved
+loop-body-preserved c =
+    rw (c.sooner-best.ensures, c.least_of_list.ensures) (flat_map_step (λ (body : Body). from_calls (internal_in c.args.system.now) body.statements) c.loop-body.best _ c.args.bodies.now c.loop-body.body-index c.body-item.result c.loop-body-test.true c.body-item.is c.loop-body.invariant)
