@@ -3,7 +3,8 @@
 
 Half of the tasks wait for events in an endless loop, the others run to an end. They activate and chain each other, set events,
 share resources in nested sections, lock interrupts, and set alarms; interrupts and alarms activate tasks and set events. What
-isn't given goes with the number of tasks, up to the limits of an application at 16.
+isn't given goes with the number of tasks, up to the limits of an application at 16. With --nests each interrupt routine has a
+priority of its own, so that they nest, and every second one shares a resource with tasks.
 
     bench/make_app.py --tasks 8 --seed 3 --events 1000 DIR        writes DIR/app.oil, DIR/app.code, DIR/app.events
 """
@@ -43,8 +44,8 @@ class Task:
 
 
 class Maker:
-    def __init__(self, size, seed):
-        self.size, self.random = size, random.Random(seed)
+    def __init__(self, size, seed, nests=False):
+        self.size, self.random, self.nests = size, random.Random(seed), nests
         self.tasks = [self.task(k, p) for k, p in enumerate(self.random.sample(range(1, 4 * size.tasks + 1), size.tasks))]
         self.waiting = [task for task in self.tasks if task.events]
         self.left = 0
@@ -77,8 +78,17 @@ class Maker:
         lines += ['COUNTER C%d { MAXALLOWEDVALUE = %d; };' % (k, self.random.choice(COUNTS)) for k in range(size.counters)]
         lines += [self.task_line(task) for task in self.tasks]
         lines += [self.alarm_line(k) for k in range(size.alarms if size.counters else 0)]
-        lines += ['ISR I%d { CATEGORY = 2; };' % k for k in range(size.isrs)]
+        lines += ['ISR I%d { CATEGORY = 2; %s};' % (k, self.nesting(k)) for k in range(size.isrs)]
         return '\n'.join(['CPU bench {'] + ['  ' + line for line in lines] + ['};', ''])
+
+    def nesting(self, number):
+        priority = 'PRIORITY = %d; ' % (number + 1) if self.nests else ''
+        shared = self.shared(number)
+        return priority + ('RESOURCE = %s; ' % shared if shared else '')
+
+    def shared(self, number):
+        """The resource that an interrupt routine shares with tasks, if it does."""
+        return 'R%d' % (number // 2 % self.size.resources) if self.nests and number % 2 and self.size.resources else None
 
     def task_line(self, task):
         words = ['PRIORITY = %d;' % task.priority, 'SCHEDULE = %s;' % ('NON' if self.chance(20) else 'FULL')]
@@ -102,7 +112,7 @@ class Maker:
     # Task code
 
     def code(self):
-        routines = 4 * self.size.isrs
+        routines = (6 if self.nests else 4) * self.size.isrs
         share = max(3, (min(self.size.blocks, LIMITS.blocks) - routines) // self.size.tasks)
         lines = [line for task in self.tasks for line in self.body(task, share)]
         lines += [line for k in range(self.size.isrs) for line in self.routine(k)]
@@ -130,8 +140,9 @@ class Maker:
         return 'ChainTask(%s);' % self.one('T', self.size.tasks) if self.chance(20) else 'TerminateTask();'
 
     def routine(self, number):
+        shared = self.shared(number)
         lines = ['ISR(I%d) {' % number, '  if (?) {', '    ' + self.signal(), '  } else {', '    ' + self.signal(), '  }', '}']
-        return lines
+        return lines[:1] + ['  GetResource(%s);' % shared, '  work 2;', '  ReleaseResource(%s);' % shared] + lines[1:] if shared else lines
 
     def statements(self, task, depth, held):
         """Statements up to the blocks that are left, or, inside of a block, a few of them."""
@@ -215,9 +226,9 @@ class Maker:
                 yield 'run %d\n' % self.random.randrange(2)
 
 
-def write_app(size, seed, events, folder):
+def write_app(size, seed, events, folder, nests=False):
     """Writes the three texts, and gives their names."""
-    maker = Maker(size, seed)
+    maker = Maker(size, seed, nests)
     os.makedirs(folder, exist_ok=True)
     names = [os.path.join(folder, 'app.' + end) for end in ('oil', 'code', 'events')]
     for name, lines in zip(names, ([maker.oil()], [maker.code()], maker.events(events))):
@@ -232,6 +243,7 @@ def arguments():
     parser.add_argument('--seed', type=int, default=1)
     parser.add_argument('--events', type=int, default=1000, metavar='N', help='how many events the event text has')
     parser.add_argument('--tasks', type=int, default=4, metavar='N', help='1 to 16')
+    parser.add_argument('--nests', action='store_true', help='interrupt routines have priorities of their own, and resources')
     for name in Size._fields[1:]:
         option = 'oil-events' if name == 'events' else name
         parser.add_argument('--' + option, dest='of_' + name, type=int, metavar='N', help='at most %d' % getattr(LIMITS, name))
@@ -247,7 +259,7 @@ def size_of(words):
 
 def main():
     words = arguments()
-    write_app(size_of(words), words.seed, words.events, words.folder)
+    write_app(size_of(words), words.seed, words.events, words.folder, words.nests)
 
 
 if __name__ == '__main__':

@@ -22,7 +22,7 @@ import run as bench
 from image import name, number
 from image_reader import read_image
 from points import block_of, executing_at, points_of
-from table_bytes import LIVE, MOST, SUSPENDED, magic, value_bytes
+from table_bytes import IN, LIVE, MOST, OUT, SUSPENDED, magic, value_bytes
 
 SECONDS, MEGABYTES = 2.0, 1024.0
 STOPPED_AFTER = 60
@@ -76,7 +76,9 @@ def row(app, point, first=None):
         sets[0] = first
     if running == 0 and block_of(point) in app.blocks_of_task(0):
         sets[0] = alone(LIVE, block_of(point), 0, 0, 0)
-    return b''.join(sets) + b'\1' * (len(app.own_bits()) + len(app.alarms))
+    inside = [block_of(point) in app.blocks_of_source(s) for s in range(len(app.sources))]
+    routines = [alone(IN, block_of(point), 0) if is_in else alone(OUT) for is_in in inside]
+    return b''.join(sets) + b'\1' * (len(app.own_bits()) + len(app.alarms)) + b''.join(routines)
 
 
 def table_of(app, rows, most):
@@ -119,7 +121,7 @@ def one_set(app, most):
 def late(app, most):
     """So many values in the first row that each later one, which has the last of them alone, needs a word for each 64 of them."""
     points = points_of(app)
-    values = within(live_values(app), most - 99 * len(points))
+    values = within(live_values(app), most - 107 * len(points))
     return [row(app, points[0], listed(values))] + [row(app, point, listed(values[-1:])) for point in points[1:]]
 
 

@@ -9,7 +9,7 @@ from given import contents
 (NESTED,) = LATER = ('nested',)
 """Priorities and resources of interrupt routines, which nest by them."""
 
-OPENED = set()
+OPENED = {NESTED}
 """The parts that the program has."""
 
 

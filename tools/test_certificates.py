@@ -33,7 +33,7 @@ WORKED = application_of('CPU c { OS os; TASK T1 { PRIORITY = 1; AUTOSTART = TRUE
 
 ONE_TASK = application_of('CPU c { OS os; TASK T1 { PRIORITY = 1; AUTOSTART = TRUE; }; };', 'TASK(T1) { TerminateTask(); }')
 
-TABLE = bytes.fromhex('4f53454b54414201' '00' '01' '00000001' '00' '00000001' '00' '01' '00000001' '010000000000' '00000001' '00'
+TABLE = bytes.fromhex('4f53454b54414202' '00' '01' '00000001' '00' '00000001' '00' '01' '00000001' '010000000000' '00000001' '00'
                       '01' '00000001' '010001000000' '00000001' '00' '00' '01' '00000001' '010001000000' '00000001' '010003000000' '00')
 """The table that certifies the image of WORKED."""
 
@@ -132,12 +132,13 @@ class Bytes(unittest.TestCase):
         self.assertEqual(fault_of(WORKED, TABLE.ljust(16777216, b'\0')), 'K5 at 75')
         self.assertEqual(fault_of(WORKED, TABLE.ljust(16777217, b'\0')), 'K6 at 16777216')
 
-    def test_event_bits_alarms_and_waiting_tasks(self):
+    def test_event_bits_alarms_waiting_tasks_and_routines(self):
         app = application_of('CPU c { OS os { USERESSCHEDULER = FALSE; }; EVENT E; COUNTER C { MAXALLOWEDVALUE = 3; }; TASK T { PRIORITY = 1; EVENT = E; };'
                              ' ALARM A { COUNTER = C; ACTION = SETEVENT { TASK = T; EVENT = E; }; }; };', 'TASK(T) { WaitEvent(E); ClearEvent(E); }')
-        head = b'OSEKTAB\1' b'\1'
-        for text, due in (('00000001 020000 03 02 ' + '00' * 10, None), ('00000001 020001', 'K3 at 14'), ('00000001 00 00', 'K3 at 14'),
-                          ('00000001 00 04', 'K3 at 14'), ('00000001 00 01 00', 'K3 at 15')):
+        head = b'OSEKTAB\2' b'\1'
+        for text, due in (('00000001 020000 03 02 00000001 00 ' + '00' * 10, None), ('00000001 020001', 'K3 at 14'), ('00000001 00 00', 'K3 at 14'),
+                          ('00000001 00 04', 'K3 at 14'), ('00000001 00 01 00', 'K3 at 15'), ('00000001 00 01 01 00000000', 'K3 at 16'),
+                          ('00000001 00 01 01 00000001 01', 'K3 at 20')):
             self.assertEqual(fault_of(app, head + bytes.fromhex(text)), due, text)
 
     def test_bytes_that_are_no_image(self):

@@ -96,8 +96,9 @@ class Systems(unittest.TestCase):
                 self.judge(name, system, system.numbers)
 
     def test_numbers_without_sources(self):
-        for name, numbers in WITHOUT_SOURCES.items():
-            self.judge(name, ROUTINES[name], numbers)
+        with with_parts():
+            for name, numbers in WITHOUT_SOURCES.items():
+                self.judge(name, ROUTINES[name], numbers)
 
     def test_systems_at_random(self):
         """Of systems that are made by chance: their files mean what they were made of, and no run leaves the table."""
@@ -166,8 +167,9 @@ class Rules(unittest.TestCase):
     NAMES_G = 'RESOURCE G { RESOURCEPROPERTY = INTERNAL; };'
 
     def test_what_is_not_opened_is_refused(self):
-        self.assertEqual(refusal('RESOURCE R;' + isr('I', 0, 'R'), 'ISR(I) { }'), 'o:1: O15')
-        self.assertEqual(refusal('RESOURCE R;' + isr('I', 0), 'ISR(I) {\n GetResource(R); }'), 'c:2: C6')
+        with with_parts():
+            self.assertEqual(refusal('RESOURCE R;' + isr('I', 0, 'R'), 'ISR(I) { }'), 'o:1: O15')
+            self.assertEqual(refusal('RESOURCE R;' + isr('I', 0), 'ISR(I) {\n GetResource(R); }'), 'c:2: C6')
 
     def test_activations(self):
         event = 'EVENT E;'

@@ -46,7 +46,7 @@ TRACE = """0 T1 T1=R T2=S
 """
 """I1 takes R, I2 nests in it and takes Q, both end, and T2 runs twice."""
 
-EXAMPLES = {'gateway': (), 'inverter': opened.LATER}
+EXAMPLES = {'gateway': opened.LATER, 'inverter': opened.LATER}
 """The examples, and what is opened for them."""
 
 
@@ -144,7 +144,8 @@ class Warnings(unittest.TestCase):
                                  'the end of I: R may be held here: it is given back, without a status'])
 
     def test_what_is_not_opened_is_refused(self):
-        self.assertRaises(Wrong, lint.warnings_of, text_of('RESOURCE R;' + isr('I', 0, 'R')), 'ISR(I) { }', ('o', 'c'))
+        with with_parts():
+            self.assertRaises(Wrong, lint.warnings_of, text_of('RESOURCE R;' + isr('I', 0, 'R')), 'ISR(I) { }', ('o', 'c'))
 
     def test_what_the_texts_tell_of_a_refusal(self):
         oil = text_of('\nRESOURCE G { RESOURCEPROPERTY = INTERNAL; };\nRESOURCE H { RESOURCEPROPERTY = INTERNAL; };\n' +
@@ -171,7 +172,7 @@ class Examples(unittest.TestCase):
                 self.assertEqual(lint.warnings_of(example(name, '.oil'), example(name, '.code'), ('o', 'c')), [], name)
 
     def test_they_are_refused_before(self):
-        with self.assertRaises(Wrong) as caught:
+        with with_parts(), self.assertRaises(Wrong) as caught:
             application_of(example('inverter', '.oil'), example('inverter', '.code'), ('o', 'c'))
         self.assertEqual(str(caught.exception), 'o:18: O15')
 

@@ -178,7 +178,7 @@ class Lint(unittest.TestCase):
 
     def test_what_implementation_declares_is_a_vendors(self):
         found = lint.warnings_of(example('body', '.oil'), example('body', '.code'), ('o', 'c'))
-        self.assertEqual([text.split(' ')[0] for _, _, text, _ in found], ['CC', 'PRIORITY'])
+        self.assertEqual([text.split(' ')[0] for _, _, text, _ in found], ['CC'])
 
     def test_a_routine_that_never_ends(self):
         oil_text = 'CPU c { OS os; %s ISR I { CATEGORY = 2; }; };' % T1
@@ -262,7 +262,7 @@ class Annotations(unittest.TestCase):
 class Explanations(unittest.TestCase):
     def test_the_guide_has_each_rule(self):
         rules = explain.rules_of(explain.guide())
-        names = ['L%d' % k for k in range(1, 7)] + ['S1', 'S2', 'S3'] + ['O%d' % k for k in range(1, 18) if k != 8]
+        names = ['L%d' % k for k in range(1, 7)] + ['S1', 'S2', 'S3'] + ['O%d' % k for k in range(1, 19) if k != 8]
         names += ['C%d' % k for k in (1, 2, 3, 4, 6, 7, 8, 9, 10)] + ['E1', 'E2', 'E3', 'E4'] + ['I%d' % k for k in range(1, 8)]
         names += ['K%d' % k for k in range(1, 7)] + ['N%d' % k for k in range(1, 5)] + ['G%d' % k for k in range(1, 5)]
         self.assertEqual(sorted(rules), sorted(names + ['CS1']))
@@ -349,7 +349,7 @@ class Regressions(unittest.TestCase):
         self.assertEqual(regress.difference('a\nb\n', ''), "line 1: wanted 'a', got no line")
 
     def test_applications_are_found(self):
-        self.assertEqual([os.path.basename(f) for f in regress.applications(EXAMPLES)], ['body', 'engine', 'first', 'gateway', 'lamp'])
+        self.assertEqual([os.path.basename(f) for f in regress.applications(EXAMPLES)], ['body', 'engine', 'first', 'gateway', 'inverter', 'lamp'])
         self.assertRaises(Wrong, regress.applications, HERE)
         self.assertRaises(Wrong, regress.applications, 'nowhere')
 

@@ -1,6 +1,6 @@
 -- A well-formed state stands at a point of the application, and its components, where the right tasks are inside, are what
 -- they can be there.
-use Rattle.std.proofs.Common.{◌≡◌, ℕ, ◌<◌, true, length, refl, subst, Some, None, IfSome}
+use Rattle.std.proofs.Common.{◌≡◌, ℕ, ◌<◌, true, length, refl, ap, subst, Some, None, IfSome}
 use Rattle.std.specs.{Prelude.{is_some}, declared.option.Option.{Option}}
 use Rattle.std.proofs.lemmas.Bool.{eq-eqb}
 use Rattle.osek_values.specs.declared.numbers.{TaskNo.{TaskNo}, BlockNo.{BlockNo}}
@@ -9,16 +9,17 @@ use Rattle.osek_standard.specs.declared.state.Source.TheVariants as source
 use Rattle.osek_standard.specs.declared.state.Processor.TheVariants as processor
 use Rattle.osek_standard.specs.declared.task_state.Activity.{Activity}
 use Rattle.osek_standard.specs.declared.task_state.Activity.TheVariants as activity
-use Rattle.osek_standard.specs.{TaskStates.{is_inside, is_inside_in, is_live_activity}, Internal.{internal_of}, States.{is_that_task, task_of, task_state, source_state, place_in, place_by, place_of_source}}
-use Rattle.osek_standard.specs.Well.{Well, IsActivityOf, IsOwn, IsOfRoutine, IsProcessor, IsRunningAt}
+use Rattle.osek_standard.specs.{Apps.{source_count}, TaskStates.{is_inside, is_inside_in, is_live_activity}, Internal.{internal_of}, States.{is_that_task, task_of, task_state, source_state, place_in, place_by, place_of_source}}
+use Rattle.osek_standard.specs.Well.{Well, IsActivityOf, IsOwn, IsOfRoutine, IsProcessor, IsRunningAt, IsSourceState}
 use Rattle.osek_standard.specs.declared.point.Point.TheVariants as point
 use Rattle.abstract_state.specs.declared.value.Component.{Component}
 use Rattle.abstract_state.specs.declared.value.Component.TheVariants as component
 use Rattle.osek_standard.specs.Points.{point_at, point_of, IsPoint}
-use Rattle.abstract_state.specs.Components.{component_at, component_count, value_in, abstract_of, part_of, IsComponent, IsVal, RunsAt, IsInterruptedVal, FitsPoint, IsPart, IsAllowed}
+use Rattle.abstract_state.specs.Components.{component_at, component_count, value_in, source_value, abstract_of, part_of, IsComponent, IsVal, RunsAt, IsInterruptedVal, FitsPoint}
+use Rattle.abstract_state.specs.Components.{IsSourceVal, IsInAt, SourceFitsPoint, IsPart, IsAllowed}
 use Rattle.abstract_state.specs.Regular.{IsRegular}
-use Rattle.abstract_state.proofs.ComponentLaws.{component_known}
-use Rattle.osek_standard.proofs.OwnerLaws.{own_once}
+use Rattle.abstract_state.proofs.{ComponentLaws.{component_known}, RoutineOwners.{routine_once}}
+use Rattle.osek_standard.proofs.{OwnerLaws.{own_once}, SourceKeeps.{sources_right}}
 
 module _ (app : App) where
   -- the block of a Live task is its own
@@ -46,6 +47,15 @@ module _ (app : App) where
   routine_owns : (k : ℕ) (x : Source) → IsRunningAt app k x → IsOfRoutine app k (place_of_source x).block.0
   routine_owns k source.Out h = absurd h
   routine_owns k (source.In x) h = h.own
+
+  -- a source and its value
+  pub source_right : (k : ℕ) (x : Source) → IsSourceState app k x → IsSourceVal app k (source_value x)
+  source_right k source.Out h = tt
+  source_right k (source.In x) h = record { own = h.own; stack = h.stack; none = h.none }
+
+  in_there : (k : ℕ) (x : Source) → IsRunningAt app k x → IsInAt app (place_of_source x).block (source_value x)
+  in_there k source.Out h = absurd h
+  in_there k (source.In x) h = refl
 
   over_known : (s : State) (o : Option TaskNo) → IfSome o (λ t. (t.0 < length app.tasks) × (is_live_activity (task_state s t.0).activity ≡ true)) → IfSome o (λ t. t.0 < length app.tasks)
   over_known s None h = tt
@@ -93,6 +103,15 @@ module _ (app : App) where
         (runs_there r.0 (task_state s r.0).activity h.running.1 (flag r.0 (eq-eqb r.0 r.0 refl)))
     fits_by (processor.Interrupted k over) h flag t lt = over_live (place_of_source (source_state s k.0)).block over h.over flag t
 
+    source_fits_by : (p : Processor) → IsProcessor app s p → (k : ℕ) → k < source_count app → SourceFitsPoint app (point_at (place_by s p).block p) k (source_value (source_state s k))
+    source_fits_by processor.Halted h k lt = ap source_value (h k)
+    source_fits_by processor.Idle h k lt = ap source_value (h k)
+    source_fits_by (processor.Running t) h k lt = ap source_value (h.out k)
+    source_fits_by (processor.Interrupted j over) h k lt = λ own.
+        let here = source_state s j.0 in
+        let same : j.0 ≡ k = routine_once app j.0 k (place_of_source here).block.0 h.known lt (routine_owns j.0 here h.runs) own in
+        subst (λ (l : ℕ). IsInAt app (place_of_source here).block (source_value (source_state s l))) same (in_there j.0 here h.runs)
+
     module _ (regular : IsRegular app s) where
       part_by : (x : Component) → IsComponent app x → IsPart app (point_of s) x (part_of s x)
       part_by (component.Task t) h = (
@@ -101,6 +120,7 @@ module _ (app : App) where
       )
       part_by (component.Event t k) h = tt
       part_by (component.Alarm a) h = tt
+      part_by (component.Source k) h = (source_right k.0 (source_state s k.0) (sources_right app s w k.0), source_fits_by s.processor w.processor k.0 h)
 
       -- what a component of it is
       pub well_part : (c : ℕ) → c < component_count app → IsAllowed app (point_of s) c (abstract_of app s c)

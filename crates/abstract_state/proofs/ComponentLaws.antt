@@ -3,11 +3,11 @@ use Rattle.std.proofs.Common.{◌≡◌, ℕ, zero, suc, ◌+◌, ◌-◌, ◌<�
 use Rattle.std.specs.{Prelude.{if◌then◌else◌}, List.{range_with_len}}
 use Rattle.std.proofs.lemmas.{Bool.{cases_Bool, cases_lt}, List.{get_or_append_left, get_or-append_right, length-append}}
 use Rattle.std.proofs.lemmas.List.FromFn.{length-map-range_with_len, get_or-map-range_with_len}
-use Rattle.osek_values.specs.{Numbers.{task_no, event_no, alarm_no}, Bits.{has_bit, passing_below}}
-use Rattle.osek_standard.specs.{declared.app.App.{App}, Apps.{the_task}}
+use Rattle.osek_values.specs.{Numbers.{task_no, event_no, alarm_no, source_no}, Bits.{has_bit, passing_below}}
+use Rattle.osek_standard.specs.{declared.app.App.{App}, Apps.{the_task, source_count}}
 use Rattle.abstract_state.specs.declared.value.Component.{Component}
 use Rattle.abstract_state.specs.declared.value.Component.TheVariants as component
-use Rattle.abstract_state.specs.Components.{events_of, components, component_count, component_at, IsComponent, event_start, component_number}
+use Rattle.abstract_state.specs.Components.{events_of, components, component_count, component_at, IsComponent, event_start, before_alarms, component_number}
 
 -- each element fits its place, counted from a number on
 abbrev Each : {X : Type 0} → (ℕ → X → Type 0) → ℕ → List X → Type 0
@@ -89,8 +89,11 @@ module _ (app : App) where
       (each_flat_map Stands (events_of app) (λ t. length app.tasks + event_start app t) (λ t. let more = start_more t in omega (arith, more)) 0 (length app.tasks)
       (λ t low high. events_of_stand t (omega (arith, high))))
 
-  alarms_stand : Each Stands (length app.tasks + length (flat_map (events_of app) (range_with_len 0 (length app.tasks)))) (map (λ a. component.Alarm (alarm_no a)) (range_with_len 0 (length app.alarms)))
-  alarms_stand = each_range Stands (length app.tasks + length (flat_map (events_of app) (range_with_len 0 (length app.tasks)))) (λ a. component.Alarm (alarm_no a)) (length app.alarms) (λ j lt. record { known = lt; number = refl })
+  alarms_stand : Each Stands (before_alarms app) (map (λ a. component.Alarm (alarm_no a)) (range_with_len 0 (length app.alarms)))
+  alarms_stand = each_range Stands (before_alarms app) (λ a. component.Alarm (alarm_no a)) (length app.alarms) (λ j lt. record { known = lt; number = refl })
+
+  sources_stand : Each Stands (before_alarms app + length app.alarms) (map (λ k. component.Source (source_no k)) (range_with_len 0 (source_count app)))
+  sources_stand = each_range Stands (before_alarms app + length app.alarms) (λ k. component.Source (source_no k)) (source_count app) (λ j lt. record { known = lt; number = refl })
 
   all_stand : Each Stands 0 (components app)
   all_stand =
@@ -98,10 +101,15 @@ module _ (app : App) where
       let ys = flat_map (events_of app) (range_with_len 0 (length app.tasks)) in
       let zs = map (λ a. component.Alarm (alarm_no a)) (range_with_len 0 (length app.alarms)) in
       let few : length xs ≡ length app.tasks = length-map-range_with_len (λ t. component.Task (task_no t)) 0 (length app.tasks) in
+      let ws = map (λ k. component.Source (source_no k)) (range_with_len 0 (source_count app)) in
+      let alarms : length zs ≡ length app.alarms = length-map-range_with_len (λ a. component.Alarm (alarm_no a)) 0 (length app.alarms) in
       let both : length (xs ++ ys) ≡ length xs + length ys = length-append xs ys in
-      each_append Stands 0 (xs ++ ys) zs
+      let three : length ((xs ++ ys) ++ zs) ≡ length (xs ++ ys) + length zs = length-append (xs ++ ys) zs in
+      each_append Stands 0 ((xs ++ ys) ++ zs) ws
+      (each_append Stands 0 (xs ++ ys) zs
       (each_append Stands 0 xs ys tasks_stand (subst (λ (m : ℕ). Each Stands m ys) (omega (arith, few)) events_stand))
-      (subst (λ (m : ℕ). Each Stands m zs) (omega (arith, few, both)) alarms_stand)
+      (subst (λ (m : ℕ). Each Stands m zs) (omega (arith, few, both)) alarms_stand))
+      (subst (λ (m : ℕ). Each Stands m ws) (omega (arith, few, alarms, both, three)) sources_stand)
 
   stands_at : (c : ℕ) → c < component_count app → Stands c (component_at app c)
   stands_at c lt = subst (λ (n : ℕ). Stands n (component_at app c)) (omega arith) (all_stand c (component.Alarm (alarm_no 0)) lt)
@@ -120,7 +128,8 @@ module _ (app : App) where
       let ys = flat_map (events_of app) (range_with_len 0 (length app.tasks)) in
       let zs = map (λ a. component.Alarm (alarm_no a)) (range_with_len 0 (length app.alarms)) in
       let few : length xs ≡ length app.tasks = length-map-range_with_len (λ t. component.Task (task_no t)) 0 (length app.tasks) in
-      omega (arith, few, length-append xs ys, length-append (xs ++ ys) zs, lt)
+      let ws = map (λ k. component.Source (source_no k)) (range_with_len 0 (source_count app)) in
+      omega (arith, few, length-append xs ys, length-append (xs ++ ys) zs, length-append ((xs ++ ys) ++ zs) ws, lt)
 
   pub task_at_its_number : (t : ℕ) → t < length app.tasks → component_at app t ≡ component.Task (task_no t)
   task_at_its_number t lt =
@@ -129,6 +138,8 @@ module _ (app : App) where
       let zs = map (λ a. component.Alarm (alarm_no a)) (range_with_len 0 (length app.alarms)) in
       let few : length xs ≡ length app.tasks = length-map-range_with_len (λ t. component.Task (task_no t)) 0 (length app.tasks) in
       let d = component.Alarm (alarm_no 0) in
-      get_or_append_left (xs ++ ys) zs d t (omega (arith, few, length-append xs ys, lt))
+      let ws = map (λ k. component.Source (source_no k)) (range_with_len 0 (source_count app)) in
+      get_or_append_left ((xs ++ ys) ++ zs) ws d t (omega (arith, few, length-append xs ys, length-append (xs ++ ys) zs, lt))
+      ∙ get_or_append_left (xs ++ ys) zs d t (omega (arith, few, length-append xs ys, lt))
       ∙ get_or_append_left xs ys d t (omega (arith, few, lt))
       ∙ get_or-map-range_with_len (λ t. component.Task (task_no t)) 0 (length app.tasks) t t d lt (omega arith)

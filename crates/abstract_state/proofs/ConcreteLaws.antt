@@ -1,25 +1,27 @@
 -- Values that the components can have at a point, one each, make a well-formed state there.
-use Rattle.std.proofs.Common.{◌≡◌, ◌≢◌, ℕ, ◌<◌, ◌≤◌, Bool, true, false, ◌&&◌, nat_lt, [], length, map, replicate, get_or, refl, sym, ap, subst, ◌∙◌, inl, inr, arith, Some, None, IfSome}
-use Rattle.std.proofs.lemmas.Bool.{cases_eq, cases_lt, and_parts, eq-eqb, eqb-true, false≢true, ne_eqb, Decides.{nat_tests}}
+use Rattle.std.proofs.Common.{◌≡◌, ℕ, ◌<◌, ◌≤◌, Bool, true, false, ◌&&◌, nat_lt, length, map, replicate, get_or, refl, sym, ap, subst, ◌∙◌, inl, inr, arith, Some, None, IfSome}
+use Rattle.std.proofs.lemmas.Bool.{cases_lt, and_parts, eqb-true, false≢true, Decides.{nat_tests}}
 use Rattle.std.proofs.lemmas.List.{get_or_past, get_or-replicate, length-replicate, FromFn.{length-map-range_with_len, get_or-map-range_with_len}}
 use Rattle.std.specs.{Prelude.{if◌then◌else◌, is_some}, List.{range_with_len}, declared.option.Option.{Option}}
 use Rattle.osek_values.specs.{Numbers.{task_no, source_no, mode_no, event_no, alarm_no}, declared.numbers.{TaskNo.{TaskNo}, BlockNo.{BlockNo}, SourceNo.{SourceNo}}, Bits.{has_bit}}
-use Rattle.osek_standard.specs.declared.{app.App.{App}, task_state.TaskState.{TaskState}, state.{Source.{Source}, AlarmState.{AlarmState}}, point.Point.{Point}}
+use Rattle.osek_standard.specs.declared.{app.App.{App}, task_state.{TaskState.{TaskState}, Place.{Place}}, state.{Source.{Source}, AlarmState.{AlarmState}}, point.Point.{Point}}
 use Rattle.osek_standard.specs.{Apps.{the_task, the_counter, the_block, source_count}, TaskStates.{suspended, is_inside, is_inside_in, is_live, is_live_activity}, Internal.{IsInside, internal_of}}
-use Rattle.osek_standard.specs.{States.{task_of, task_state, source_state, alarm_state, is_source_at, is_that_task, place_in, place_of_source}, Effects.{place_at}, Line.{places_due}}
+use Rattle.osek_standard.specs.{States.{task_of, task_state, source_state, alarm_state, is_that_task, place_in, place_of_source}, Effects.{place_at}, Line.{places_due}}
 use Rattle.osek_standard.specs.{Well.{HasProcessor, IsActivityOf, IsAlarmState, IsArmed, IsOffsetAt, IsProcessor, IsRunningAt, IsSourceState, IsTaskState}, Points.{point_of, IsPoint}}
 use Rattle.osek_standard.specs.declared.state.Source.TheVariants as source
 use Rattle.osek_standard.specs.declared.state.AlarmState.TheVariants as alarm
 use Rattle.osek_standard.specs.declared.point.Point.TheVariants as point
-use Rattle.osek_standard.proofs.{WellLaws.{own_block, routine_block, offset_0}, StackLaws.{no_stack}, SourceKeeps.{running_is_right}}
+use Rattle.osek_standard.proofs.WellLaws.{own_block, routine_block, offset_0}
 use Rattle.osek_standard.proofs.PlaceLaws.{places_in}
-use Rattle.abstract_state.specs.declared.value.{Val.{Val, TheVariants.{Suspended, Live, Waiting}}, LiveVal.{LiveVal}, Component.{Component}, PartValue.{PartValue, TheVariants.{OfTask, OfEvent, OfAlarm}}}
-use Rattle.abstract_state.specs.Components.{component_at, component_count, component_number, value_in, is_armed, abstract_of, part_of, IsComponent, IsVal}
-use Rattle.abstract_state.specs.Components.{RunsAt, IsInterruptedVal, FitsPoint, IsPart}
-use Rattle.abstract_state.specs.Concrete.{Free, val_of, flag_of, activity_of, alarm_of, event_chosen, task_chosen, alarm_chosen, source_by, processor_by, state_of, StandsThere}
-use Rattle.abstract_state.specs.Concrete.{IsFree, IsRoutineAt, AreAllowed, HasParts, places_wanted}
+use Rattle.abstract_state.specs.declared.value.{Val.{Val, TheVariants.{Suspended, Live, Waiting}}, LiveVal.{LiveVal}, SourceVal.{SourceVal}, RoutineVal.{RoutineVal}, Component.{Component}}
+use Rattle.abstract_state.specs.declared.value.PartValue.{PartValue, TheVariants.{OfTask, OfEvent, OfAlarm, OfSource}}
+use Rattle.abstract_state.specs.declared.value.SourceVal.TheVariants as source_val
+use Rattle.abstract_state.specs.Components.{component_at, component_count, component_number, value_in, source_value, is_armed, abstract_of, part_of, IsComponent, IsVal}
+use Rattle.abstract_state.specs.Components.{RunsAt, IsInterruptedVal, FitsPoint, IsSourceVal, IsInAt, SourceFitsPoint, IsPart}
+use Rattle.abstract_state.specs.Concrete.{Free, val_of, flag_of, source_val_of, activity_of, alarm_of, source_of, value_of_source, event_chosen, task_chosen, alarm_chosen, source_chosen}
+use Rattle.abstract_state.specs.Concrete.{processor_by, state_of, StandsThere, IsFree, IsRoutineAt, AreAllowed, HasParts, places_wanted}
 use Rattle.abstract_state.specs.declared.value.Component.TheVariants as component
-use Rattle.abstract_state.proofs.{ComponentLaws.{component_known, component_numbered, task_counted, task_at_its_number}, BitLaws.{has_bit_of_number, number_within}, RepeatedLines.{repeated_line, repeated_counted}}
+use Rattle.abstract_state.proofs.{ComponentLaws.{component_known, component_numbered, task_counted, task_at_its_number}, Numbers.{component_here, number_known}, BitLaws.{has_bit_of_number, number_within}, RepeatedLines.{repeated_line, repeated_counted}}
 
 -- values, and what is made of them
 value_of_activity : (v : Val) (o : ℕ) → value_in (activity_of v o) ≡ v
@@ -54,6 +56,20 @@ module _ (app : App) (t : ℕ) where
   inside_right (Live x) o h = h
   inside_right (Waiting b) o h = absurd h
 
+-- a source's value, and what is made of it
+value_of_routine : (v : SourceVal) (o : ℕ) → source_value (source_of v o) ≡ v
+value_of_routine source_val.Out o = refl
+value_of_routine (source_val.In x) o = refl
+
+module _ (app : App) where
+  running_there : (k : ℕ) (b : BlockNo) (v : SourceVal) (o : ℕ) → IsInAt app b v → IsSourceState app k (source_of v o) → IsRunningAt app k (source_of v o)
+  running_there k b source_val.Out o there h = absurd there
+  running_there k b (source_val.In x) o there h = h
+
+  pub place_of_in : (b : BlockNo) (v : SourceVal) (o : ℕ) → IsInAt app b v → place_of_source (source_of v o) ≡ place_at b o
+  place_of_in b source_val.Out o there = absurd there
+  place_of_in b (source_val.In x) o there = ap (λ (c : BlockNo). place_at c o) there
+
 armed_flag : (b : Bool) (at cycle : ℕ) → is_armed (alarm_of b at cycle) ≡ b
 armed_flag true at cycle = refl
 armed_flag false at cycle = refl
@@ -62,32 +78,59 @@ live_part : (x : PartValue) (l : LiveVal) → val_of x ≡ Live l → x ≡ OfTa
 live_part (OfTask v) l e = ap OfTask e
 live_part (OfEvent f) l e = absurd (cc)
 live_part (OfAlarm f) l e = absurd (cc)
+live_part (OfSource v) l e = absurd (cc)
+
+in_part : (x : PartValue) (r : RoutineVal) → source_val_of x ≡ source_val.In r → x ≡ OfSource (source_val.In r)
+in_part (OfTask v) r e = absurd (cc)
+in_part (OfEvent f) r e = absurd (cc)
+in_part (OfAlarm f) r e = absurd (cc)
+in_part (OfSource v) r e = ap OfSource e
 
 module _ (app : App) (p : Point) where
   task_part : (t : TaskNo) (x : PartValue) → IsPart app p (component.Task t) x → OfTask (val_of x) ≡ x
   task_part t (OfTask v) h = refl
   task_part t (OfEvent f) h = absurd h
   task_part t (OfAlarm f) h = absurd h
+  task_part t (OfSource v) h = absurd h
 
   event_part : (t : TaskNo) (x : PartValue) → (k : _) → IsPart app p (component.Event t k) x → OfEvent (flag_of x) ≡ x
   event_part t (OfTask v) k h = absurd h
   event_part t (OfEvent f) k h = refl
   event_part t (OfAlarm f) k h = absurd h
+  event_part t (OfSource v) k h = absurd h
 
   alarm_part : (x : PartValue) → (a : _) → IsPart app p (component.Alarm a) x → OfAlarm (flag_of x) ≡ x
   alarm_part (OfTask v) a h = absurd h
   alarm_part (OfEvent f) a h = absurd h
   alarm_part (OfAlarm f) a h = refl
+  alarm_part (OfSource v) a h = absurd h
+
+  source_part : (x : PartValue) → (k : _) → IsPart app p (component.Source k) x → OfSource (source_val_of x) ≡ x
+  source_part (OfTask v) k h = absurd h
+  source_part (OfEvent f) k h = absurd h
+  source_part (OfAlarm f) k h = absurd h
+  source_part (OfSource v) k h = refl
 
   val_part : (t : TaskNo) (x : PartValue) → IsPart app p (component.Task t) x → IsVal app t.0 (val_of x) × FitsPoint app p t.0 (val_of x)
   val_part t (OfTask v) h = h
   val_part t (OfEvent f) h = absurd h
   val_part t (OfAlarm f) h = absurd h
+  val_part t (OfSource v) h = absurd h
+
+  source_val_part : (k : SourceNo) (x : PartValue) → IsPart app p (component.Source k) x → IsSourceVal app k.0 (source_val_of x) × SourceFitsPoint app p k.0 (source_val_of x)
+  source_val_part k (OfTask v) h = absurd h
+  source_val_part k (OfEvent f) h = absurd h
+  source_val_part k (OfAlarm f) h = absurd h
+  source_val_part k (OfSource v) h = h
 
   activity_right : (t : ℕ) (v : Val) (o : ℕ) → IsVal app t v → ((x : LiveVal) → v ≡ Live x → IsOffsetAt (the_block app x.block.0).kind o) → IsActivityOf app t (activity_of v o)
   activity_right t Suspended o h offset = tt
   activity_right t (Live x) o h offset = record { own = h.own; offset = offset x refl; stack = h.stack; further = h.further }
   activity_right t (Waiting b) o h offset = h
+
+  routine_right : (k : ℕ) (v : SourceVal) (o : ℕ) → IsSourceVal app k v → ((x : RoutineVal) → v ≡ source_val.In x → IsOffsetAt (the_block app x.block.0).kind o) → IsSourceState app k (source_of v o)
+  routine_right k source_val.Out o h offset = tt
+  routine_right k (source_val.In x) o h offset = record { own = h.own; offset = offset x refl; stack = h.stack; none = h.none }
 
   alarm_right : (a : ℕ) (b : Bool) (at cycle : ℕ) → IsArmed app a at cycle → IsAlarmState app a (alarm_of b at cycle)
   alarm_right a true at cycle h = h
@@ -100,6 +143,14 @@ module _ (app : App) (p : Point) where
     pub val_right : (t : ℕ) → t < length app.tasks → IsVal app t (val_of (value t)) × FitsPoint app p t (val_of (value t))
     val_right t lt = val_part (task_no t) (value t) (allowed_task t lt)
 
+    allowed_source : (k : ℕ) → k < source_count app → IsPart app p (component.Source (source_no k)) (value_of_source app value k)
+    allowed_source k lt =
+        let x : Component = component.Source (source_no k) in
+        subst (λ (y : Component). IsPart app p y (value_of_source app value k)) (component_here app x lt) (allowed (component_number app x) (number_known app x lt))
+
+    pub source_val_right : (k : ℕ) → k < source_count app → IsSourceVal app k (source_val_of (value_of_source app value k)) × SourceFitsPoint app p k (source_val_of (value_of_source app value k))
+    source_val_right k lt = source_val_part (source_no k) (value_of_source app value k) (allowed_source k lt)
+
   module _ (value : ℕ → PartValue) (free : Free) where
     pub task_is : (t : ℕ) → t < length app.tasks → task_state (state_of app p value free) t ≡ task_chosen app p value free t
     task_is t lt = get_or-map-range_with_len (task_chosen app p value free) 0 (length app.tasks) t t suspended lt (omega arith)
@@ -107,15 +158,20 @@ module _ (app : App) (p : Point) where
     pub alarm_is : (a : ℕ) → a < length app.alarms → alarm_state (state_of app p value free) a ≡ alarm_chosen app p value free a
     alarm_is a lt = get_or-map-range_with_len (alarm_chosen app p value free) 0 (length app.alarms) a a alarm.Idle lt (omega arith)
 
-    pub source_is : (k : ℕ) → k < source_count app → source_state (state_of app p value free) k ≡ source_by app p value free p k
-    source_is k lt = get_or-map-range_with_len (source_by app p value free p) 0 (source_count app) k k source.Out lt (omega arith)
+    pub source_is : (k : ℕ) → k < source_count app → source_state (state_of app p value free) k ≡ source_chosen app p value free k
+    source_is k lt = get_or-map-range_with_len (source_chosen app p value free) 0 (source_count app) k k source.Out lt (omega arith)
 
-    source_out : (k : ℕ) → source_by app p value free p k ≡ source.Out → source_state (state_of app p value free) k ≡ source.Out
-    source_out k e = elim (cases_lt k (source_count app)) [
-      | inl below ↦ source_is k below ∙ e
-      | inr above ↦
-          (let long = length-map-range_with_len (source_by app p value free p) 0 (source_count app) in
-          get_or_past (map (source_by app p value free p) (range_with_len 0 (source_count app))) k source.Out (omega (arith, above, long)))
+    -- a source that isn't there
+    source_past : (k : ℕ) → source_count app ≤ k → source_state (state_of app p value free) k ≡ source.Out
+    source_past k past =
+        let long = length-map-range_with_len (source_chosen app p value free) 0 (source_count app) in
+        get_or_past (map (source_chosen app p value free) (range_with_len 0 (source_count app))) k source.Out (omega (arith, past, long))
+
+    -- where the values are so, all are out
+    all_are_out : ((k : ℕ) → k < source_count app → source_val_of (value_of_source app value k) ≡ source_val.Out) → (k : ℕ) → source_state (state_of app p value free) k ≡ source.Out
+    all_are_out out k = elim (cases_lt k (source_count app)) [
+      | inl below ↦ source_is k below ∙ ap (λ (v : SourceVal). source_of v (free.routine_offset k)) (out k below)
+      | inr past ↦ source_past k past
     ]
 
     live_chosen : (t : ℕ) → t < length app.tasks → IsInterruptedVal app t (val_of (value t)) → is_live (task_state (state_of app p value free) t) ≡ true
@@ -138,6 +194,15 @@ module _ (app : App) (p : Point) where
         events = number_within (event_chosen app p value free t) 64 (the_task app t).own.0 (λ k e. (and_parts (has_bit (the_task app t).own.0 k) (flag_of (value (component_number app (component.Event (task_no t) (event_no k))))) e).0);
       }
 
+      source_right : (k : ℕ) → IsSourceState app k (source_state (state_of app p value free) k)
+      source_right k = elim (cases_lt k (source_count app)) [
+        | inl lt ↦
+            (let v = source_val_of (value_of_source app value k) in
+            subst (IsSourceState app k) (sym (source_is k lt))
+            (routine_right k v (free.routine_offset k) (source_val_right value allowed k lt).0 (λ x e. chosen.routine_offsets k x lt (in_part (value_of_source app value k) x e))))
+        | inr past ↦ subst (IsSourceState app k) (sym (source_past k past)) tt
+      ]
+
       part_is : (x : Component) → IsComponent app x → IsPart app p x (value (component_number app x)) → part_of (state_of app p value free) x ≡ value (component_number app x)
       part_is (component.Task t) known h =
           ap (λ (x : TaskState). OfTask (value_in x.activity)) (task_is t.0 known)
@@ -154,6 +219,11 @@ module _ (app : App) (p : Point) where
           ap (λ (x : AlarmState). OfAlarm (is_armed x)) (alarm_is a.0 known)
           ∙ ap OfAlarm (armed_flag (flag_of (value n)) (free.due a.0) (free.cycle a.0))
           ∙ alarm_part (value n) a h
+      part_is (component.Source k) known h =
+          let n = component_number app (component.Source k) in
+          ap (λ (x : Source). OfSource (source_value x)) (source_is k.0 known)
+          ∙ ap OfSource (value_of_routine (source_val_of (value n)) (free.routine_offset k.0))
+          ∙ source_part (value n) k h
 
       parts_are : (c : ℕ) → c < component_count app → abstract_of app (state_of app p value free) c ≡ value c
       parts_are c lt =
@@ -162,63 +232,59 @@ module _ (app : App) (p : Point) where
           ∙ ap value same
 
 module _ (app : App) (value : ℕ → PartValue) (free : Free) where
-  -- the source's routine, at this block
-  abbrev inside : BlockNo → Source
-  inside b = source.In (record { at = place_at b free.routine_offset; held = [] })
+  -- the tasks and the sources are where the point says
+  abbrev FitThere : Point → Type 0
+  FitThere p = (t : ℕ) → t < length app.tasks → FitsPoint app p t (val_of (value t))
 
-  here_in : (b : BlockNo) (over : Option TaskNo) (known : free.source.0 < source_count app) → source_state (state_of app (point.Routine b over) value free) free.source.0 ≡ inside b
-  here_in b over known =
-      source_is app (point.Routine b over) value free free.source.0 known
-      ∙ ap (λ (t : Bool). if t then inside b else source.Out) (eq-eqb free.source.0 free.source.0 refl)
+  abbrev SourcesFit : Point → Type 0
+  SourcesFit p = (k : ℕ) → k < source_count app → SourceFitsPoint app p k (source_val_of (value_of_source app value k))
+
+  abbrev AreSourceStates : Point → Type 0
+  AreSourceStates p = (k : ℕ) → IsSourceState app k (source_state (state_of app p value free) k)
 
   interrupted : (b : BlockNo) (over under : Option TaskNo) → IfSome under (λ t. t.0 < length app.tasks) → ((t : ℕ) → t < length app.tasks → FitsPoint app (point.Routine b under) t (val_of (value t))) → IfSome under (HasProcessor app (state_of app (point.Routine b over) value free))
   interrupted b over None known fits = tt
   interrupted b over (Some u) known fits = (known, live_chosen app (point.Routine b over) value free u.0 known (fits u.0 known refl))
 
-  other_out : (b : BlockNo) (over : Option TaskNo) (l : ℕ) → l ≢ free.source.0 → source_state (state_of app (point.Routine b over) value free) l ≡ source.Out
-  other_out b over l other = source_out app (point.Routine b over) value free l (ap (λ (t : Bool). if t then inside b else source.Out) (ne_eqb l free.source.0 other))
+  -- the source whose routine stands at the point
+  abbrev here_val : SourceVal
+  here_val = source_val_of (value_of_source app value free.source.0)
 
-  routine_runs : (b : BlockNo) (over : Option TaskNo) → IsRoutineAt app (point.Routine b over) value free b over → IsRunningAt app free.source.0 (source_state (state_of app (point.Routine b over) value free) free.source.0)
-  routine_runs b over stands =
-      subst (IsRunningAt app free.source.0) (sym (here_in b over stands.known)) (record { own = stands.own; offset = stands.offset; stack = no_stack app; none = λ _. refl })
+  routine_runs : (b : BlockNo) (over : Option TaskNo) → IsRoutineAt app (point.Routine b over) value free b over → SourcesFit (point.Routine b over) → AreSourceStates (point.Routine b over)
+      → IsRunningAt app free.source.0 (source_state (state_of app (point.Routine b over) value free) free.source.0)
+  routine_runs b over stands sources states =
+      let k = free.source.0 in
+      let is = source_is app (point.Routine b over) value free k stands.known in
+      subst (IsRunningAt app k) (sym is)
+      (running_there app k b here_val (free.routine_offset k) (sources k stands.known stands.own) (subst (IsSourceState app k) is (states k)))
 
-  processor_right : (p : Point) → StandsThere app p value free p → ((t : ℕ) → t < length app.tasks → FitsPoint app p t (val_of (value t))) → IsProcessor app (state_of app p value free) (processor_by app p value free p)
-  processor_right point.Halted stands fits = λ k. source_out app point.Halted value free k refl
-  processor_right point.Idle stands fits = λ k. source_out app point.Idle value free k refl
-  processor_right (point.Task b) stands fits = record {
+  processor_right : (p : Point) → StandsThere app p value free p → FitThere p → SourcesFit p → AreSourceStates p → IsProcessor app (state_of app p value free) (processor_by app p value free p)
+  processor_right point.Halted stands fits sources states = all_are_out app point.Halted value free sources
+  processor_right point.Idle stands fits sources states = all_are_out app point.Idle value free sources
+  processor_right (point.Task b) stands fits sources states = record {
     running = (stands.0, live_chosen app (point.Task b) value free free.task.0 stands.0 (live_at_value app free.task.0 b (val_of (value free.task.0)) (fits free.task.0 stands.0 stands.1)));
-    out = λ k. source_out app (point.Task b) value free k refl;
+    out = all_are_out app (point.Task b) value free sources;
   }
-  processor_right (point.Routine b over) stands fits = record {
+  processor_right (point.Routine b over) stands fits sources states = record {
     known = stands.known;
-    runs = routine_runs b over stands;
-    others = λ l. elim (cases_eq l free.source.0) [
-      | inl same ↦ subst (λ (k : ℕ). IsSourceState app k (source_state (state_of app (point.Routine b over) value free) k)) (sym same) (running_is_right app free.source.0 _ (routine_runs b over stands))
-      | inr other ↦ subst (IsSourceState app l) (sym (other_out b over l other)) tt
-    ];
+    runs = routine_runs b over stands sources states;
+    others = states;
     over = interrupted b over over stands.interrupted fits;
   }
 
-  point_is : (p : Point) → StandsThere app p value free p → ((t : ℕ) → t < length app.tasks → FitsPoint app p t (val_of (value t))) → point_of (state_of app p value free) ≡ p
-  point_is point.Halted stands fits = refl
-  point_is point.Idle stands fits = refl
-  point_is (point.Task b) stands fits =
+  point_is : (p : Point) → StandsThere app p value free p → FitThere p → SourcesFit p → point_of (state_of app p value free) ≡ p
+  point_is point.Halted stands fits sources = refl
+  point_is point.Idle stands fits sources = refl
+  point_is (point.Task b) stands fits sources =
       ap (λ (x : TaskState). point.Task (place_in x.activity).block) (task_is app (point.Task b) value free free.task.0 stands.0)
       ∙ ap point.Task (place_of_value app free.task.0 b (val_of (value free.task.0)) (free.offset free.task.0) (fits free.task.0 stands.0 stands.1))
-  point_is (point.Routine b over) stands fits = ap (λ (x : Source). point.Routine (place_of_source x).block over) (here_in b over stands.known)
+  point_is (point.Routine b over) stands fits sources =
+      let k = free.source.0 in
+      ap (λ (x : Source). point.Routine (place_of_source x).block over) (source_is app (point.Routine b over) value free k stands.known)
+      ∙ ap (λ (at : Place). point.Routine at.block over) (place_of_in app b here_val (free.routine_offset k) (sources k stands.known stands.own))
 
 module _ (app : App) (value : ℕ → PartValue) (free : Free) where
-  -- the routine at the point is the only one
-  chosen_alone : (p : Point) (k : ℕ) → is_source_at (processor_by app p value free p) k ≡ false → source_state (state_of app p value free) k ≡ source.Out
-  chosen_alone point.Halted k f = source_out app point.Halted value free k refl
-  chosen_alone point.Idle k f = source_out app point.Idle value free k refl
-  chosen_alone (point.Task b) k f = source_out app (point.Task b) value free k refl
-  chosen_alone (point.Routine b over) k f = other_out app value free b over k (λ same. false≢true (sym f ∙ eq-eqb free.source.0 k (sym same)))
-
-  abbrev FitThere : Point → Type 0
-  FitThere p = (t : ℕ) → t < length app.tasks → FitsPoint app p t (val_of (value t))
-
-  current_chosen : (p : Point) → StandsThere app p value free p → FitThere p → (t : ℕ) → is_that_task (task_of (processor_by app p value free p)) t ≡ true
+  current_chosen : (p : Point) → StandsThere app p value free p → FitThere app value free p → (t : ℕ) → is_that_task (task_of (processor_by app p value free p)) t ≡ true
       → is_inside (task_state (state_of app p value free) t) ≡ is_some (internal_of app t)
   current_chosen point.Halted stands fits t e = absurd (false≢true e)
   current_chosen point.Idle stands fits t e = absurd (false≢true e)
@@ -232,7 +298,7 @@ module _ (app : App) (value : ℕ → PartValue) (free : Free) where
       (flag_chosen app (point.Routine b (Some r)) value free r.0 stands.interrupted (fits r.0 stands.interrupted refl))
 
   -- the right tasks are inside
-  chosen_inside : (p : Point) → AreAllowed app p value → StandsThere app p value free p → FitThere p → IsInside app (state_of app p value free)
+  chosen_inside : (p : Point) → AreAllowed app p value → StandsThere app p value free p → FitThere app value free p → IsInside app (state_of app p value free)
   chosen_inside p allowed stands fits = record {
     named = λ t e. elim (cases_lt t (length app.tasks)) [
       | inl lt ↦ inside_named app t (val_of (value t)) (free.offset t) (val_right app p value allowed t lt).0 (sym (ap (λ (x : TaskState). is_inside x) (task_is app p value free t lt)) ∙ e)
@@ -265,23 +331,24 @@ module _ (app : App) (p : Point) (value : ℕ → PartValue) (free : Free) where
 -- the state with these values
 pub state_has_parts : (app : App) (p : Point) (value : ℕ → PartValue) (free : Free) → AreAllowed app p value → IsFree app p value free → HasParts app p value (state_of app p value free)
 state_has_parts app p value free allowed chosen =
-    let fits : (t : ℕ) → t < length app.tasks → FitsPoint app p t (val_of (value t)) = λ t lt. (val_right app p value allowed t lt).1 in
+    let fits : FitThere app value free p = λ t lt. (val_right app p value allowed t lt).1 in
+    let sources : SourcesFit app value free p = λ k lt. (source_val_right app p value allowed k lt).1 in
     record {
       well = record {
         mode = chosen.mode;
         tasks_len = length-map-range_with_len (task_chosen app p value free) 0 (length app.tasks);
         counters_len = chosen.counters_len;
         alarms_len = length-map-range_with_len (alarm_chosen app p value free) 0 (length app.alarms);
-        sources_len = length-map-range_with_len (source_by app p value free p) 0 (source_count app);
+        sources_len = length-map-range_with_len (source_chosen app p value free) 0 (source_count app);
         latched_len = chosen.latched_len;
         tasks = λ t lt. subst (IsTaskState app t) (sym (task_is app p value free t lt)) (task_right app p value free allowed chosen t lt);
         counters = chosen.counters;
         alarms = λ a lt. subst (IsAlarmState app a) (sym (alarm_is app p value free a lt)) (alarm_right app p a (flag_of (value (component_number app (component.Alarm (alarm_no a))))) (free.due a) (free.cycle a) (chosen.alarms a lt));
-        processor = processor_right app value free p chosen.stands fits;
+        processor = processor_right app value free p chosen.stands fits sources (source_right app p value free allowed chosen);
         line = λ t. chosen.line t ∙ places_chosen app p value free t;
       };
-      regular = record { inside = chosen_inside app value free p allowed chosen.stands fits; alone = chosen_alone app value free p };
-      point = point_is app value free p chosen.stands fits;
+      regular = record { inside = chosen_inside app value free p allowed chosen.stands fits };
+      point = point_is app value free p chosen.stands fits sources;
       parts = parts_are app p value free allowed chosen;
     }
 
@@ -315,7 +382,7 @@ module _ (app : App) where
     latched = replicate (source_count app) false;
     task = task_there p h;
     source = source_there p h;
-    routine_offset = 0;
+    routine_offset = λ k. 0;
     offset = λ t. 0;
     due = λ a. 0;
     cycle = λ a. 0;
@@ -327,7 +394,7 @@ module _ (app : App) where
   stands_first point.Halted value h = tt
   stands_first point.Idle value h = tt
   stands_first (point.Task b) value h = (h.known, h.own)
-  stands_first (point.Routine b over) value h = record { known = h.known; own = h.own; offset = offset_0 app (the_block app b.0).kind (routine_block app h.source b.0 h.known h.own).operands; interrupted = h.task }
+  stands_first (point.Routine b over) value h = record { known = h.known; own = h.own; interrupted = h.task }
 
   same_current : (p : Point) (value : ℕ → PartValue) (h : IsPoint app p) → current_there p h ≡ task_of (processor_by app p value (first_choice p value h) p)
   unfolding current_there task_there first_choice
@@ -355,6 +422,9 @@ module _ (app : App) where
       offsets = λ t l lt e.
           (let x : IsPart app p (component.Task (task_no t)) (OfTask (Live l)) = subst (IsPart app p (component.Task (task_no t))) e (allowed_task app p value allowed t lt) in
           offset_0 app (the_block app l.block.0).kind (own_block app t l.block.0 lt x.0.own).operands);
+      routine_offsets = λ k x lt e.
+          (let part : IsPart app p (component.Source (source_no k)) (OfSource (source_val.In x)) = subst (IsPart app p (component.Source (source_no k))) e (allowed_source app p value allowed k lt) in
+          offset_0 app (the_block app x.block.0).kind (routine_block app k x.block.0 lt part.0.own).operands);
       alarms = λ a lt. record { at_most = omega arith; round = refl };
       line = line_first p value h;
     },

@@ -1,25 +1,24 @@
 -- Other choices of what a table doesn't keep are allowed too, and the states that they give.
-use Rattle.std.proofs.Common.{◌≡◌, ℕ, ◌<◌, ◌≤◌, Bool, true, false, List, [], ◌∷◌, length, replicate, get_or, refl, sym, ap, subst, ◌∙◌, inl, inr, arith, None, get_or-set_same, get_or-set_other}
+use Rattle.std.proofs.Common.{◌≡◌, ℕ, ◌<◌, ◌≤◌, Bool, true, false, List, ◌∷◌, length, replicate, get_or, refl, sym, ap, subst, ◌∙◌, inl, inr, arith, None, get_or-set_same, get_or-set_other}
 use Rattle.std.specs.Prelude.{◌==◌, ◌&&◌, nat_le, nat_lt, slice_set, if◌then◌else◌}
 use Rattle.std.proofs.lemmas.{Bool.{cases_Bool, cases_lt, cases_eq, eq-eqb, ne_eqb, and_from, or_right, Decides.{nat_tests}}, List.{get_or_past, get_or-replicate, length-replicate}}
 use Rattle.std.proofs.Math.ListN.{length-set}
-use Rattle.osek_values.specs.{Numbers.{task_no, alarm_no}, declared.numbers.{TaskNo.{TaskNo}, BlockNo.{BlockNo}}, Line.{place_in_line, without_first}}
-use Rattle.std.specs.declared.option.Option.{Option}
-use Rattle.osek_standard.specs.{declared.{app.App.{App}, objects.Counter.{Counter}, state.{State.{State}, Source.{Source}}}, Validity.{is_cycle_of}}
+use Rattle.osek_values.specs.{Numbers.{task_no, alarm_no}, declared.numbers.{TaskNo.{TaskNo}, BlockNo.{BlockNo}, SourceNo.{SourceNo}}, Line.{place_in_line, without_first}}
+use Rattle.osek_standard.specs.{declared.{app.App.{App}, objects.Counter.{Counter}, state.State.{State}}, Validity.{is_cycle_of}}
 use Rattle.osek_standard.specs.declared.state.AlarmState.TheVariants as alarm
-use Rattle.osek_standard.specs.declared.state.Source.TheVariants as source
 use Rattle.osek_standard.specs.declared.{task_state.TaskState.{TaskState}, point.Point.{Point}}
 use Rattle.osek_standard.specs.declared.point.Point.TheVariants as point
-use Rattle.osek_standard.specs.{Apps.{the_block, the_alarm, the_counter, source_count, max_of, no_alarm, no_counter}, States.{alarm_state, place_in, place_of_source}}
-use Rattle.osek_standard.specs.{Effects.{place_at}, Arrivals.{arrival}, Points.{StandsAt, IsPoint}, Well.{IsOffsetAt, IsArmed}}
+use Rattle.osek_standard.specs.{Apps.{the_block, the_alarm, the_counter, source_count, max_of, no_alarm, no_counter}, States.{alarm_state, here, place_in, place_of_source}}
+use Rattle.osek_standard.specs.{Effects.{place_at}, Arrivals.{arrival}, Points.{StandsAt, IsPoint}, Well.{IsOwn, IsOfRoutine, IsOffsetAt, IsArmed}}
 use Rattle.osek_standard.proofs.{ArrivalLaws.{is_arrival, none_latched as nothing_arrives}, PlaceLaws.{places_in, itself_first, other_first, without_same, without_other}}
-use Rattle.abstract_state.specs.declared.value.{LiveVal.{LiveVal}, Val.{Val, TheVariants.{Suspended, Live, Waiting}}, PartValue.{PartValue, TheVariants.{OfTask}}}
+use Rattle.abstract_state.specs.declared.value.{LiveVal.{LiveVal}, Val.{Val, TheVariants.{Suspended, Live, Waiting}}, RoutineVal.{RoutineVal}, PartValue.{PartValue, TheVariants.{OfTask, OfSource}}}
+use Rattle.abstract_state.specs.declared.value.SourceVal.TheVariants as source_val
 use Rattle.abstract_state.specs.declared.value.Component.TheVariants as component
-use Rattle.abstract_state.specs.Components.{component_number, RunsAt}
-use Rattle.abstract_state.specs.Concrete.{Free, val_of, flag_of, activity_of, alarm_of, IsFree, StandsThere, AreAllowed, HasParts, state_of}
+use Rattle.abstract_state.specs.Components.{component_number, RunsAt, IsInAt}
+use Rattle.abstract_state.specs.Concrete.{Free, val_of, flag_of, source_val_of, activity_of, alarm_of, source_of, value_of_source, IsFree, StandsThere, AreAllowed, HasParts, state_of}
 use Rattle.abstract_state.specs.Choices.{with_latches, with_offset, with_routine_offset, with_arming, with_counter, with_first, first_of_line}
 use Rattle.abstract_state.specs.Choices.{IsFirstIfThere, IsQuiet, IsQuietAt, IsQuietWith, IsLatchedAlone}
-use Rattle.abstract_state.proofs.ConcreteLaws.{state_has_parts, choice_allowed, task_is, alarm_is, source_is, val_right}
+use Rattle.abstract_state.proofs.ConcreteLaws.{state_has_parts, choice_allowed, task_is, alarm_is, source_is, val_right, source_val_right, place_of_in}
 
 -- each task stands in a line as often as before, whichever comes first
 moved_ahead : (t u : ℕ) (line : List TaskNo) → 0 < places_in line t → places_in (task_no t ∷ without_first line t) u ≡ places_in line u
@@ -39,41 +38,16 @@ comes_first : (t : ℕ) (line : List TaskNo) → 0 < places_in line t → place_
 comes_first t line some = let e : nat_lt 0 (places_in line t) ≡ true = grind (arith, nat_tests) in rw (e, eq-eqb t t refl) refl
 
 module _ (app : App) (p : Point) (value : ℕ → PartValue) (free : Free) where
-  stands_with_latches : (latched : List Bool) (q : Point) → StandsThere app p value free q → StandsThere app p value (with_latches free latched) q
-  stands_with_latches latched point.Halted h = h
-  stands_with_latches latched point.Idle h = h
-  stands_with_latches latched (point.Task b) h = h
-  stands_with_latches latched (point.Routine b over) h = record { known = h.known; own = h.own; offset = h.offset; interrupted = h.interrupted }
-
-  stands_with_offset : (t o : ℕ) (q : Point) → StandsThere app p value free q → StandsThere app p value (with_offset free t o) q
-  stands_with_offset t o point.Halted h = h
-  stands_with_offset t o point.Idle h = h
-  stands_with_offset t o (point.Task b) h = h
-  stands_with_offset t o (point.Routine b over) h = record { known = h.known; own = h.own; offset = h.offset; interrupted = h.interrupted }
-
-  stands_with_routine_offset : (o : ℕ) (q : Point) → ((b : BlockNo) (over : Option TaskNo) → q ≡ point.Routine b over → IsOffsetAt (the_block app b.0).kind o) → StandsThere app p value free q → StandsThere app p value (with_routine_offset free o) q
-  stands_with_routine_offset o point.Halted known h = h
-  stands_with_routine_offset o point.Idle known h = h
-  stands_with_routine_offset o (point.Task b) known h = h
-  stands_with_routine_offset o (point.Routine b over) known h = record { known = h.known; own = h.own; offset = known b over refl; interrupted = h.interrupted }
-
-  stands_with_arming : (a at cycle : ℕ) (q : Point) → StandsThere app p value free q → StandsThere app p value (with_arming free a at cycle) q
-  stands_with_arming a at cycle point.Halted h = h
-  stands_with_arming a at cycle point.Idle h = h
-  stands_with_arming a at cycle (point.Task b) h = h
-  stands_with_arming a at cycle (point.Routine b over) h = record { known = h.known; own = h.own; offset = h.offset; interrupted = h.interrupted }
-
-  stands_with_counter : (c x : ℕ) (q : Point) → StandsThere app p value free q → StandsThere app p value (with_counter free c x) q
-  stands_with_counter c x point.Halted h = h
-  stands_with_counter c x point.Idle h = h
-  stands_with_counter c x (point.Task b) h = h
-  stands_with_counter c x (point.Routine b over) h = record { known = h.known; own = h.own; offset = h.offset; interrupted = h.interrupted }
-
-  stands_with_first : (t : ℕ) (q : Point) → StandsThere app p value free q → StandsThere app p value (with_first free t) q
-  stands_with_first t point.Halted h = h
-  stands_with_first t point.Idle h = h
-  stands_with_first t (point.Task b) h = h
-  stands_with_first t (point.Routine b over) h = record { known = h.known; own = h.own; offset = h.offset; interrupted = h.interrupted }
+  -- another choice with the same task and source stands there too
+  stands_with : (other : Free) (q : Point) → other.task ≡ free.task → other.source ≡ free.source → StandsThere app p value free q → StandsThere app p value other q
+  stands_with other point.Halted task source h = h
+  stands_with other point.Idle task source h = h
+  stands_with other (point.Task b) task source h = subst (λ (t : TaskNo). (t.0 < length app.tasks) × IsOwn app t.0 b.0) (sym task) h
+  stands_with other (point.Routine b over) task source h = record {
+    known = subst (λ (k : SourceNo). k.0 < source_count app) (sym source) h.known;
+    own = subst (λ (k : SourceNo). IsOfRoutine app k.0 b.0) (sym source) h.own;
+    interrupted = h.interrupted;
+  }
 
   module _ (h : IsFree app p value free) where
     pub free_latches : (latched : List Bool) → length latched ≡ source_count app → IsFree app p value (with_latches free latched)
@@ -82,8 +56,9 @@ module _ (app : App) (p : Point) (value : ℕ → PartValue) (free : Free) where
       counters_len = h.counters_len;
       counters = h.counters;
       latched_len = long;
-      stands = stands_with_latches latched p h.stands;
+      stands = stands_with (with_latches free latched) p refl refl h.stands;
       offsets = h.offsets;
+      routine_offsets = h.routine_offsets;
       alarms = h.alarms;
       line = h.line;
     }
@@ -94,23 +69,28 @@ module _ (app : App) (p : Point) (value : ℕ → PartValue) (free : Free) where
       counters_len = h.counters_len;
       counters = h.counters;
       latched_len = h.latched_len;
-      stands = stands_with_offset t o p h.stands;
+      stands = stands_with (with_offset free t o) p refl refl h.stands;
       offsets = λ u x lt e. elim (cases_eq u t) [
         | inl same ↦ (rw (eq-eqb u t same) (known x (ap value (sym same) ∙ e)))
         | inr other ↦ (rw (ne_eqb u t other) (h.offsets u x lt e))
       ];
+      routine_offsets = h.routine_offsets;
       alarms = h.alarms;
       line = h.line;
     }
 
-    pub free_routine_offset : (o : ℕ) → ((b : BlockNo) (over : Option TaskNo) → p ≡ point.Routine b over → IsOffsetAt (the_block app b.0).kind o) → IsFree app p value (with_routine_offset free o)
-    free_routine_offset o known = record {
+    pub free_routine_offset : (k o : ℕ) → ((x : RoutineVal) → value_of_source app value k ≡ OfSource (source_val.In x) → IsOffsetAt (the_block app x.block.0).kind o) → IsFree app p value (with_routine_offset free k o)
+    free_routine_offset k o known = record {
       mode = h.mode;
       counters_len = h.counters_len;
       counters = h.counters;
       latched_len = h.latched_len;
-      stands = stands_with_routine_offset o p known h.stands;
+      stands = stands_with (with_routine_offset free k o) p refl refl h.stands;
       offsets = h.offsets;
+      routine_offsets = λ l x lt e. elim (cases_eq l k) [
+        | inl same ↦ (rw (eq-eqb l k same) (known x (ap (value_of_source app value) (sym same) ∙ e)))
+        | inr other ↦ (rw (ne_eqb l k other) (h.routine_offsets l x lt e))
+      ];
       alarms = h.alarms;
       line = h.line;
     }
@@ -121,8 +101,9 @@ module _ (app : App) (p : Point) (value : ℕ → PartValue) (free : Free) where
       counters_len = h.counters_len;
       counters = h.counters;
       latched_len = h.latched_len;
-      stands = stands_with_arming a at cycle p h.stands;
+      stands = stands_with (with_arming free a at cycle) p refl refl h.stands;
       offsets = h.offsets;
+      routine_offsets = h.routine_offsets;
       alarms = λ b lt. elim (cases_eq b a) [
         | inl same ↦ (rw (eq-eqb b a same) (subst (λ (i : ℕ). IsArmed app i at cycle) (sym same) armed))
         | inr other ↦ (rw (ne_eqb b a other) (h.alarms b lt))
@@ -142,8 +123,9 @@ module _ (app : App) (p : Point) (value : ℕ → PartValue) (free : Free) where
         | inr other ↦ subst (λ (n : ℕ). n ≤ (the_counter app d).max) (sym (get_or-set_other free.counters c d x 0 other)) (h.counters d lt)
       ];
       latched_len = h.latched_len;
-      stands = stands_with_counter c x p h.stands;
+      stands = stands_with (with_counter free c x) p refl refl h.stands;
       offsets = h.offsets;
+      routine_offsets = h.routine_offsets;
       alarms = h.alarms;
       line = h.line;
     }
@@ -154,8 +136,9 @@ module _ (app : App) (p : Point) (value : ℕ → PartValue) (free : Free) where
       counters_len = h.counters_len;
       counters = h.counters;
       latched_len = h.latched_len;
-      stands = stands_with_first t p h.stands;
+      stands = stands_with (with_first free t) p refl refl h.stands;
       offsets = h.offsets;
+      routine_offsets = h.routine_offsets;
       alarms = h.alarms;
       line = λ u. same_places t u free.line ∙ h.line u;
     }
@@ -273,8 +256,8 @@ module _ (app : App) (t : ℕ) where
   block_of_live : (b : BlockNo) (x : LiveVal) (y : PartValue) → RunsAt app b t (val_of y) → y ≡ OfTask (Live x) → x.block ≡ b
   block_of_live b x y h e = let there : RunsAt app b t (Live x) = subst (λ (z : PartValue). RunsAt app b t (val_of z)) e h in there.0
 
-abbrev inside : BlockNo → ℕ → Source
-inside b o = source.In (record { at = place_at b o; held = [] })
+block_of_in : (app : App) (b : BlockNo) (x : RoutineVal) (y : PartValue) → IsInAt app b (source_val_of y) → y ≡ OfSource (source_val.In x) → x.block ≡ b
+block_of_in app b x y h e = subst (λ (z : PartValue). IsInAt app b (source_val_of z)) e h
 
 -- a state in which no routine begins, and who has the processor stands so far in the block
 pub some_quiet_at : (app : App) (p : Point) (value : ℕ → PartValue) → IsPoint app p → AreAllowed app p value → (u : ℕ) (b : BlockNo) (o : ℕ) → StandsAt p b → IsOffsetAt (the_block app b.0).kind o →
@@ -307,17 +290,19 @@ some_quiet_at app (point.Routine c over) value known allowed u b o same offset =
     let before = quiet_free app p value known allowed in
     let h = quiet_is_free app p value known allowed in
     let k = before.source.0 in
-    let placed = with_routine_offset before o in
+    let there : IsInAt app c (source_val_of (value_of_source app value k)) = (source_val_right app p value allowed k h.stands.known).1 h.stands.own in
+    let placed = with_routine_offset before k o in
     let free = with_first placed u in
     let s = state_of app p value free in (
       s,
       record {
-        has = state_has_parts app p value free allowed (free_first app p value placed (free_routine_offset app p value before h o
-            (λ d under e. let next : c ≡ d = cc in subst (λ (i : BlockNo). IsOffsetAt (the_block app i.0).kind o) (sym same ∙ next) offset)) u);
+        has = state_has_parts app p value free allowed (free_first app p value placed (free_routine_offset app p value before h k o
+            (λ x e. subst (λ (d : BlockNo). IsOffsetAt (the_block app d.0).kind o) (sym (block_of_in app c x (value_of_source app value k) there e ∙ same)) offset)) u);
         quiet = quiet_by app p value known allowed free refl;
         first = first_by app p value known allowed u placed;
-        stands = ap place_of_source (source_is app p value free k h.stands.known
-            ∙ ap (λ (e : Bool). if e then inside c o else source.Out) (eq-eqb k k refl))
+        stands = ap place_of_source (source_is app p value free k h.stands.known)
+            ∙ ap (λ (e : Bool). place_of_source (source_of (source_val_of (value_of_source app value k)) (if e then o else before.routine_offset k))) (eq-eqb k k refl)
+            ∙ place_of_in app c (source_val_of (value_of_source app value k)) o there
             ∙ ap (λ (d : BlockNo). place_at d o) same;
       },
     )

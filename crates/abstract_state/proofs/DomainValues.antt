@@ -2,17 +2,21 @@
 use Rattle.std.proofs.Common.{◌≡◌, ℕ, ◌+◌, ◌*◌, ◌<◌, Bool, true, false, IsTrue, List, [], ◌∷◌, ◌++◌, length, map, filter, get_or, refl, sym, ap, subst, ap₂, ◌∙◌, inl, inr, arith}
 use Rattle.std.specs.{Prelude.{not, All, Contains, if◌then◌else◌}, List.{range_with_len, IsDistinct}}
 use Rattle.std.proofs.lemmas.{Bool.{cases_lt, false≢true}, List.{length-append, length-map, FromFn.{length-map-range_with_len, length-range_with_len}, Elements.{recursion_from_All, All-from_recursion}}}
-use Rattle.osek_values.specs.{Bits.{has_bit}, Numbers.{block_no, res_no}, declared.{mask.Mask.{Mask}, numbers.{BlockNo.{BlockNo}, ResNo.{ResNo}}}}
-use Rattle.osek_standard.specs.{declared.{app.App.{App}, point.Point.{Point}, state.State.{State}}, Counts.{stacks}, States.{task_state}, Validity.{IsAmong, is_internal}, Well.{Well, IsStack, same_resource}}
+use Rattle.osek_values.specs.{Bits.{has_bit}, Numbers.{block_no, mask, res_no}, declared.{mask.Mask.{Mask}, numbers.{BlockNo.{BlockNo}, ResNo.{ResNo}}}}
+use Rattle.osek_standard.specs.{declared.{app.App.{App}, point.Point.{Point}, state.State.{State}}, Apps.{is_counter}, Counts.{stacks}, States.{source_state, task_state}, Validity.{IsAmong, is_internal}}
+use Rattle.osek_standard.specs.Well.{Well, IsStack, same_resource}
 use Rattle.osek_standard.specs.declared.point.Point.TheVariants as point
-use Rattle.osek_standard.proofs.InsideLaws.{IsNamed}
+use Rattle.osek_standard.proofs.{InsideLaws.{IsNamed}, SourceKeeps.{sources_right}}
 use Rattle.osek_standard.proofs.Members.{Among, among_left, among_right, among_cases, among_each, among_map, among_passing, passing_among, each_among, map_among, among_range, range_among, contained_among, among_contained}
-use Rattle.abstract_state.specs.declared.value.{LiveVal.{LiveVal}, Val.{Val, TheVariants.{Suspended, Live, Waiting}}, Component.{Component}, Domain.{Domain}, PartValue.{PartValue, TheVariants.{OfTask, OfEvent, OfAlarm}}}
+use Rattle.abstract_state.specs.declared.value.{LiveVal.{LiveVal}, Val.{Val, TheVariants.{Suspended, Live, Waiting}}, SourceVal.{SourceVal}, RoutineVal.{RoutineVal}}
+use Rattle.abstract_state.specs.declared.value.{Component.{Component}, Domain.{Domain}, PartValue.{PartValue, TheVariants.{OfTask, OfEvent, OfAlarm, OfSource}}}
+use Rattle.abstract_state.specs.declared.value.SourceVal.TheVariants as source_val
 use Rattle.abstract_state.specs.declared.value.Component.TheVariants as component
 use Rattle.abstract_state.specs.declared.value.Domain.TheVariants as domain
-use Rattle.abstract_state.specs.{Components.{live_val, component_at, component_count, abstract_of, part_of, value_in, IsComponent, IsVal, IsPart, IsAllowed}, ValueOrder.{same_part}}
-use Rattle.abstract_state.specs.Domains.{IsLiveWithin, IsValWithin, IsWithin, IsCounted, domain_of, domain_size, live_size, resources_in, takable_resources}
-use Rattle.abstract_state.proofs.{OrderLaws.{part_right}, BitLaws.{has_bit_of_number, no_bit_past}, AllowedLaws.{val_of_activity}, ComponentLaws.{component_known}}
+use Rattle.abstract_state.specs.Components.{live_val, routine_val, component_at, component_count, abstract_of, part_of, source_value, value_in, IsComponent, IsVal, IsSourceVal, IsPart, IsAllowed}
+use Rattle.abstract_state.specs.ValueOrder.{same_part}
+use Rattle.abstract_state.specs.Domains.{IsLiveWithin, IsValWithin, IsRoutineWithin, IsSourceWithin, IsWithin, IsCounted, domain_of, domain_size, live_size, resources_in, takable_resources}
+use Rattle.abstract_state.proofs.{OrderLaws.{part_right}, BitLaws.{has_bit_of_number, no_bit_past}, AllowedLaws.{val_of_activity, source_right}, ComponentLaws.{component_known}}
 use Rattle.abstract_state.proofs.Stacks.{Apart, apart_append, apart_filter, apart_map, apart_pairs, apart_range, distinct_apart, stacks_out_of, apart_stacks_out_of, length_stacks_out_of}
 use Rattle.abstract_state.proofs.Stacks.{among_pairs, length_pairs, out_of_stack, pairs, pairs_among, stack_distinct, stack_known}
 
@@ -45,7 +49,16 @@ stack_within app held distinct known = record {
   takable = λ k d lt. (known_takable app (get_or held k d) (known k d lt)).1;
 }
 
+-- a source takes the resources that it may; a tick routine none
+taken_by : (app : App) (c : Bool) (held : List ResNo) → (c ≡ true → held ≡ []) → IsStack app held → All (λ (r : ResNo). Contains (resources_in (if c then mask 0 else takable_resources app)) r) held
+taken_by app true held none stack k d lt = let long : length held ≡ 0 = ap (λ (h : List ResNo). length h) (none refl) in absurd (omega (arith, lt, long))
+taken_by app false held none stack k d lt = takable_known app (get_or held k d) (stack.out_of.known k d lt) (stack.takable k d lt)
+
 module _ (app : App) (p : Point) where
+  source_within : (k : ℕ) (v : SourceVal) → IsSourceVal app k v → IsWithin (domain_of app (component.Source (record { 0 = k }))) (OfSource v)
+  source_within k source_val.Out h = tt
+  source_within k (source_val.In x) h = record { own = h.own; distinct = h.stack.out_of.distinct; known = taken_by app (is_counter app k) x.held h.none h.stack }
+
   val_within : (t : ℕ) (v : Val) → IsVal app t v → IsWithin (domain_of app (component.Task (record { 0 = t }))) (OfTask v)
   val_within t Suspended h = tt
   val_within t (Live x) h = record {
@@ -61,12 +74,19 @@ module _ (app : App) (p : Point) where
   part_within (component.Task t) (OfTask v) h = val_within t.0 v h.0
   part_within (component.Task t) (OfEvent b) h = h
   part_within (component.Task t) (OfAlarm b) h = h
+  part_within (component.Task t) (OfSource v) h = h
   part_within (component.Event t k) (OfTask v) h = h
   part_within (component.Event t k) (OfEvent b) h = tt
   part_within (component.Event t k) (OfAlarm b) h = h
+  part_within (component.Event t k) (OfSource v) h = h
   part_within (component.Alarm a) (OfTask v) h = h
   part_within (component.Alarm a) (OfEvent b) h = h
   part_within (component.Alarm a) (OfAlarm b) h = tt
+  part_within (component.Alarm a) (OfSource v) h = h
+  part_within (component.Source k) (OfTask v) h = h
+  part_within (component.Source k) (OfEvent b) h = h
+  part_within (component.Source k) (OfAlarm b) h = h
+  part_within (component.Source k) (OfSource v) h = source_within k.0 v h.0
 
 -- what a component can be lies in its domain
 pub allowed_within : (app : App) (p : Point) (c : ℕ) (v : PartValue) → c < component_count app → IsAllowed app p c v → IsWithin (domain_of app (component_at app c)) v
@@ -79,6 +99,7 @@ module _ (app : App) (s : State) (w : Well app s) (named : IsNamed app s) where
       val_within app point.Idle t.0 (value_in (task_state s t.0).activity) (val_of_activity app t.0 (task_state s t.0).activity (named t.0) (w.tasks t.0 h).activity)
   part_in_domain (component.Event t k) h = tt
   part_in_domain (component.Alarm a) h = tt
+  part_in_domain (component.Source k) h = source_within app point.Idle k.0 (source_value (source_state s k.0)) (source_right app k.0 (source_state s k.0) (sources_right app s w k.0))
 
   pub named_within : (c : ℕ) → c < component_count app → IsWithin (domain_of app (component_at app c)) (abstract_of app s c)
   named_within c lt = part_in_domain (component_at app c) (component_known app c lt)
@@ -156,6 +177,20 @@ one_waiting b c e = cc
 
 one_value : (v w : Val) → OfTask v ≡ OfTask w → v ≡ w
 one_value v w e = cc
+
+-- and a value of a routine
+abbrev in_of : BlockNo × List ResNo → SourceVal
+in_of q = source_val.In (routine_val q.0 q.1)
+
+abbrev parts_of_source : SourceVal → BlockNo × List ResNo
+parts_of_source source_val.Out = (block_no 0, [])
+parts_of_source (source_val.In x) = (x.block, x.held)
+
+one_in : (q r : BlockNo × List ResNo) → in_of q ≡ in_of r → q ≡ r
+one_in q r e = ap parts_of_source e
+
+one_source : (v w : SourceVal) → OfSource v ≡ OfSource w → v ≡ w
+one_source v w e = cc
 
 module _ (first count : ℕ) (takable : Mask) (activation : ℕ) (internal : Bool) where
   abbrev blocks : List BlockNo
@@ -282,11 +317,65 @@ length_vals first count takable activation internal =
     ∙ same_size count (stacks (length (resources_in takable))) activation internal in
     omega (arith, length-append (waiting_vals first count takable activation internal) (live_vals first count takable activation internal), waits, lives)
 
+-- a source is Out, or In at a block with a stack
+module _ (first count : ℕ) (takable : Mask) where
+  abbrev source_stacks : List (List ResNo)
+  source_stacks = stacks_out_of (resources_in takable)
+
+  abbrev in_parts : List (BlockNo × List ResNo)
+  in_parts = pairs (own_blocks first count) source_stacks
+
+  abbrev source_vals : List SourceVal
+  source_vals = source_val.Out ∷ map in_of in_parts
+
+  never_out : Among source_val.Out (map in_of in_parts) → ⊥
+  never_out m = let back = map_among in_of source_val.Out in_parts m in let e : source_val.Out ≡ in_of back.0 = back.2 in absurd (cc)
+
+  apart_sources : Apart source_vals
+  apart_sources = (never_out, apart_map in_of one_in in_parts (apart_pairs (own_blocks first count) source_stacks (apart_blocks first count) (apart_stacks_out_of (resources_in takable) (apart_resources takable))))
+
+  in_within : (q : BlockNo × List ResNo) → Among q in_parts → IsRoutineWithin first count takable (routine_val q.0 q.1)
+  in_within q m =
+      let whole = pairs_among q (own_blocks first count) source_stacks m in
+      let held = q.1 in
+      record {
+        own = blocks_among first count q.0 whole.0;
+        distinct = stack_distinct (resources_in takable) held whole.1;
+        known = All-from_recursion (λ (r : ResNo). Contains (resources_in takable) r) held
+            (each_among (λ (r : ResNo). Contains (resources_in takable) r) held (λ r k. among_contained (resources_in takable) r (stack_known (resources_in takable) held whole.1 r k)));
+      }
+
+  sources_within : (v : SourceVal) → Among v source_vals → IsSourceWithin first count takable v
+  sources_within v (inl e) = subst (IsSourceWithin first count takable) (sym e) tt
+  sources_within v (inr m) =
+      let back = map_among in_of v in_parts m in
+      subst (IsSourceWithin first count takable) (sym back.2) (in_within back.0 back.1)
+
+  stack_there : (x : RoutineVal) → IsRoutineWithin first count takable x → Among x.held source_stacks
+  stack_there x h =
+      out_of_stack (resources_in takable) x.held (apart_resources takable) h.distinct
+      (λ r m. contained_among (resources_in takable) r
+      (among_each (λ (q : ResNo). Contains (resources_in takable) q) x.held (recursion_from_All (λ (q : ResNo). Contains (resources_in takable) q) x.held h.known) r m))
+
+  within_sources : (v : SourceVal) → IsSourceWithin first count takable v → Among v source_vals
+  within_sources source_val.Out h = inl refl
+  within_sources (source_val.In x) h =
+      inr (among_map in_of (x.block, x.held) in_parts (among_pairs x.block x.held (own_blocks first count) source_stacks (among_blocks first count x.block h.own) (stack_there x h)))
+
+  length_sources : length source_vals ≡ 1 + count * stacks (length (resources_in takable))
+  length_sources =
+      let ins : length (map in_of in_parts) ≡ count * stacks (length (resources_in takable))
+      = length-map in_parts in_of
+      ∙ length_pairs (own_blocks first count) source_stacks
+      ∙ ap₂ (λ (m n : ℕ). m * n) (length_blocks first count) (length_stacks_out_of (resources_in takable) (apart_resources takable)) in
+      omega (arith, ins)
+
 -- A domain's values.
 abbrev values_of : Domain → List PartValue
 values_of (domain.Task first count activation internal takable) = map OfTask (all_vals first.0 count takable activation internal)
 values_of domain.Event = OfEvent false ∷ OfEvent true ∷ []
 values_of domain.Alarm = OfAlarm false ∷ OfAlarm true ∷ []
+values_of (domain.Source first count takable) = map OfSource (source_vals first.0 count takable)
 
 event_differs : OfEvent false ≡ OfEvent true → ⊥
 event_differs e = cc
@@ -299,12 +388,14 @@ values_apart (domain.Task first count activation internal takable) =
     apart_map OfTask one_value (all_vals first.0 count takable activation internal) (apart_vals first.0 count takable activation internal)
 values_apart domain.Event = (λ m. elim m [ inl e ↦ event_differs e | inr none ↦ none ], (λ none. none, tt))
 values_apart domain.Alarm = (λ m. elim m [ inl e ↦ alarm_differs e | inr none ↦ none ], (λ none. none, tt))
+values_apart (domain.Source first count takable) = apart_map OfSource one_source (source_vals first.0 count takable) (apart_sources first.0 count takable)
 
 values_counted : (d : Domain) → length (values_of d) ≡ domain_size d
 values_counted (domain.Task first count activation internal takable) =
     length-map (all_vals first.0 count takable activation internal) OfTask ∙ length_vals first.0 count takable activation internal
 values_counted domain.Event = refl
 values_counted domain.Alarm = refl
+values_counted (domain.Source first count takable) = length-map (source_vals first.0 count takable) OfSource ∙ length_sources first.0 count takable
 
 value_within : (d : Domain) (v : PartValue) → Among v (values_of d) → IsWithin d v
 value_within (domain.Task first count activation internal takable) v m =
@@ -316,20 +407,30 @@ value_within domain.Event v (inr (inr none)) = absurd none
 value_within domain.Alarm v (inl e) = subst (IsWithin domain.Alarm) (sym e) tt
 value_within domain.Alarm v (inr (inl e)) = subst (IsWithin domain.Alarm) (sym e) tt
 value_within domain.Alarm v (inr (inr none)) = absurd none
+value_within (domain.Source first count takable) v m =
+    let back = map_among OfSource v (source_vals first.0 count takable) m in
+    subst (IsWithin (domain.Source first count takable)) (sym back.2) (sources_within first.0 count takable back.0 back.1)
 
 within_value : (d : Domain) (v : PartValue) → IsWithin d v → Among v (values_of d)
 within_value (domain.Task first count activation internal takable) (OfTask v) h =
     among_map OfTask v (all_vals first.0 count takable activation internal) (within_there first.0 count takable activation internal v h)
 within_value (domain.Task first count activation internal takable) (OfEvent b) h = absurd h
 within_value (domain.Task first count activation internal takable) (OfAlarm b) h = absurd h
+within_value (domain.Task first count activation internal takable) (OfSource v) h = absurd h
 within_value domain.Event (OfTask v) h = absurd h
 within_value domain.Event (OfEvent false) h = inl refl
 within_value domain.Event (OfEvent true) h = inr (inl refl)
 within_value domain.Event (OfAlarm b) h = absurd h
+within_value domain.Event (OfSource v) h = absurd h
 within_value domain.Alarm (OfTask v) h = absurd h
 within_value domain.Alarm (OfEvent b) h = absurd h
 within_value domain.Alarm (OfAlarm false) h = inl refl
 within_value domain.Alarm (OfAlarm true) h = inr (inl refl)
+within_value domain.Alarm (OfSource v) h = absurd h
+within_value (domain.Source first count takable) (OfTask v) h = absurd h
+within_value (domain.Source first count takable) (OfEvent b) h = absurd h
+within_value (domain.Source first count takable) (OfAlarm b) h = absurd h
+within_value (domain.Source first count takable) (OfSource v) h = among_map OfSource v (source_vals first.0 count takable) (within_sources first.0 count takable v h)
 
 -- each domain has as many values as its size
 pub domain_counted : (d : Domain) → IsCounted d

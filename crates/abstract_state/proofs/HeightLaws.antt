@@ -1,12 +1,13 @@
 -- The height of an entry with an application's domains, and how high it is at most.
-use Rattle.std.proofs.Common.{◌≡◌, ℕ, zero, suc, ◌+◌, ◌*◌, ◌^◌, ◌<◌, ◌≤◌, Bool, true, false, cond, List, [], ◌∷◌, ◌++◌, length, map, filter, flat_map, get_or, refl, sym, ap, ap₂, ◌∙◌, arith, All}
+use Rattle.std.proofs.Common.{◌≡◌, ℕ, zero, suc, ◌+◌, ◌-◌, ◌*◌, ◌^◌, ◌<◌, ◌≤◌, Bool, true, false, cond, List, [], ◌∷◌, ◌++◌, length, map, filter, flat_map, get_or, refl, sym, ap, ap₂, ◌∙◌, arith, All, nat_lt}
 use Rattle.std.specs.{Prelude.{not, is_some, if◌then◌else◌}, List.{range_with_len, sum_by, count_by}}
-use Rattle.std.proofs.lemmas.{List.{length-map, FromFn.{length-range_with_len}, Sums.{sum_by-cons, sum_by-append, sum_by-le, count_by-le-length}}, Nat.{ones-le}}
+use Rattle.std.proofs.lemmas.{Bool.{lt-ltb, Decides.{nat_tests}}, List.{length-map, FromFn.{length-range_with_len}, Sums.{sum_by-cons, sum_by-append, sum_by-le, count_by-le-length}}, Nat.{ones-le}}
 use Rattle.osek_values.proofs.BitCounts.{bits_counted}
-use Rattle.osek_values.specs.{Numbers.{task_no, event_no, alarm_no, res_no}, Bits.{has_bit}}
+use Rattle.osek_values.specs.{Numbers.{task_no, event_no, alarm_no, mask, res_no, source_no}, Bits.{has_bit}}
 use Rattle.oil_system.specs.declared.objects.Resource.{Resource}
-use Rattle.osek_standard.specs.{declared.{app.App.{App}, objects.Task.{Task}}, Apps.{the_task, no_task, no_resource}, Validity.{is_internal}}
-use Rattle.osek_standard.specs.Counts.{stacks, live_height, task_height, event_height, height, takable_count}
+use Rattle.osek_standard.specs.{declared.{app.App.{App}, objects.{Task.{Task}, Isr.{Isr}, Counter.{Counter}}}, Validity.{is_internal}}
+use Rattle.osek_standard.specs.Apps.{the_task, the_isr, the_counter, no_task, no_isr, no_counter, no_resource, source_count}
+use Rattle.osek_standard.specs.Counts.{stacks, live_height, task_height, event_height, isr_height, tick_height, source_height, height, takable_count}
 use Rattle.osek_standard.proofs.CountLaws.{few_stacks, few_live}
 use Rattle.abstract_state.proofs.BitLaws.{has_bit_of_number, no_bit_past}
 use Rattle.abstract_state.specs.declared.value.Component.{Component}
@@ -38,6 +39,24 @@ module _ {X : Type 0} where
       let here : g a ≡ h x = ap g (omega arith) ∙ each 0 (omega arith) in
       let rest : sum_by g (range_with_len (a + 1) (length xs)) ≡ sum_by h xs = sum_places h d g (a + 1) xs (λ i lt. ap g (omega arith) ∙ each (suc i) (omega (arith, lt))) in
       sum_by-cons g a (range_with_len (a + 1) (length xs)) ∙ ap₂ (λ (m n : ℕ). m + n) here rest ∙ sym (sum_by-cons h x xs)
+
+-- a sum over a range is one over its two parts
+sum_split : (g : ℕ → ℕ) (a m n : ℕ) → sum_by g (range_with_len a (m + n)) ≡ sum_by g (range_with_len a m) + sum_by g (range_with_len (a + m) n)
+sum_split g a zero n =
+    let few : zero + n ≡ n = omega arith in
+    let from : a ≡ a + zero = omega arith in
+    let none : sum_by g (range_with_len a zero) ≡ 0 = refl in
+    let whole : sum_by g (range_with_len a (zero + n)) ≡ sum_by g (range_with_len a n) = ap (λ (k : ℕ). sum_by g (range_with_len a k)) few in
+    let rest : sum_by g (range_with_len a n) ≡ sum_by g (range_with_len (a + zero) n) = ap (λ (k : ℕ). sum_by g (range_with_len k n)) from in
+    omega (arith, none, whole, rest)
+sum_split g a (suc m) n =
+    let long : suc m + n ≡ suc (m + n) = omega arith in
+    let from : a + 1 + m ≡ a + suc m = omega arith in
+    let whole : sum_by g (range_with_len a (suc m + n)) ≡ sum_by g (range_with_len a (suc (m + n))) = ap (λ (k : ℕ). sum_by g (range_with_len a k)) long in
+    let first : sum_by g (range_with_len a (suc (m + n))) ≡ g a + sum_by g (range_with_len (a + 1) (m + n)) = sum_by-cons g a (range_with_len (a + 1) (m + n)) in
+    let front : sum_by g (range_with_len a (suc m)) ≡ g a + sum_by g (range_with_len (a + 1) m) = sum_by-cons g a (range_with_len (a + 1) m) in
+    let place : sum_by g (range_with_len (a + 1 + m) n) ≡ sum_by g (range_with_len (a + suc m) n) = ap (λ (k : ℕ). sum_by g (range_with_len k n)) from in
+    omega (arith, whole, first, front, place, sum_split g (a + 1) m n)
 
 -- Numbers that pass a test, where it passes those of the elements of a list that pass another.
 module _ (test : ℕ → Bool) where
@@ -110,14 +129,55 @@ module _ (app : App) where
       ∙ sum_places event_height no_task (λ t. sum_by size (events_of app t)) 0 app.tasks
       (λ i lt. ap (λ (t : ℕ). sum_by size (events_of app t)) (omega arith) ∙ events_of_sum i (masks i no_task lt))
 
+  -- a tick routine takes no resource
+  none_takable : length (resources_in (mask 0)) ≡ 0
+  none_takable =
+      length-map (filter (has_bit 0) (range_with_len 0 64)) res_no
+      ∙ none_counted (has_bit 0) 0 64 (λ i lt. no_bit_past (λ k. true) 0 (0 + i) (omega arith))
+
+  abbrev size_of_source : ℕ → ℕ
+  size_of_source k = size (component.Source (source_no k))
+
+  -- a source that is a counter, or not
+  abbrev size_as : Bool → ℕ → ℕ
+  size_as counter k =
+      1 + (if counter then (the_counter app k).count else (the_isr app (k - length app.counters)).count) * stacks (length (resources_in (if counter then mask 0 else takable_resources app)))
+
+  tick_size : (c : ℕ) → c < length app.counters → size_of_source c ≡ tick_height (the_counter app c)
+  tick_size c lt =
+      let once : (the_counter app c).count * 1 ≡ (the_counter app c).count = omega arith in
+      ap (λ (counter : Bool). size_as counter c) (lt-ltb c (length app.counters) lt)
+      ∙ ap (λ (m : ℕ). 1 + (the_counter app c).count * stacks m) none_takable
+      ∙ ap (λ (m : ℕ). 1 + m) once
+
+  isr_size : (i : ℕ) → size_of_source (length app.counters + i) ≡ isr_height (stacks (takable_count app)) (the_isr app i)
+  isr_size i =
+      let n : ℕ = length app.counters in
+      let above : nat_lt (n + i) n ≡ false = grind (arith, nat_tests) in
+      let same : n + i - n ≡ i = omega arith in
+      ap (λ (counter : Bool). size_as counter (n + i)) above
+      ∙ ap₂ (λ (j m : ℕ). 1 + (the_isr app j).count * stacks m) same takable_counted
+
+  sources_sum : sum_by size (map (λ k. component.Source (source_no k)) (range_with_len 0 (source_count app))) ≡ source_height app
+  sources_sum =
+      let from : 0 + length app.counters ≡ length app.counters = omega arith in
+      sum_map size (λ k. component.Source (source_no k)) (range_with_len 0 (source_count app))
+      ∙ sum_split size_of_source 0 (length app.counters) (length app.isrs)
+      ∙ ap₂ (λ (m n : ℕ). m + n)
+      (sum_places tick_height no_counter size_of_source 0 app.counters (λ i lt. ap size_of_source (omega arith) ∙ tick_size i lt))
+      (ap (λ (k : ℕ). sum_by size_of_source (range_with_len k (length app.isrs))) from
+      ∙ sum_places (isr_height (stacks (takable_count app))) no_isr size_of_source (length app.counters) app.isrs (λ i lt. isr_size i))
+
   components_sum : HasMasks app → sum_by size (components app) ≡ height app
   components_sum masks =
       let xs = map (λ t. component.Task (task_no t)) (range_with_len 0 (length app.tasks)) in
       let ys = flat_map (events_of app) (range_with_len 0 (length app.tasks)) in
       let zs = map (λ a. component.Alarm (alarm_no a)) (range_with_len 0 (length app.alarms)) in
+      let ws = map (λ k. component.Source (source_no k)) (range_with_len 0 (source_count app)) in
+      let last = sum_by-append size ((xs ++ ys) ++ zs) ws in
       let ends = sum_by-append size (xs ++ ys) zs in
       let begins = sum_by-append size xs ys in
-      omega (arith, ends, begins, tasks_sum, events_sum masks, alarms_sum)
+      omega (arith, last, ends, begins, tasks_sum, events_sum masks, alarms_sum, sources_sum)
 
   -- an entry with the application's domains has its height
   pub entry_height_is : HasMasks app → (entry : PlainEntry) → domains entry ≡ domains_of app → entry_height entry ≡ height app
@@ -149,11 +209,24 @@ module _ (app : App) where
   event_few : HasMasks app → All (λ (x : Task). event_height x ≤ 128) app.tasks
   event_few masks k d lt = omega (arith, ones-le 64 (get_or app.tasks k d).own.0 (masks k d lt))
 
-  pub height_most : HasMasks app → height app ≤ 58610845576256
+  -- a tick routine's, and an ISR's with the stacks of 8 resources
+  tick_few : All (λ (x : Counter). tick_height x ≤ 65536) app.counters
+  tick_few k d lt = omega (arith, (app.valid.each_counter k d lt).1.inside, app.valid.few_blocks)
+
+  isr_few : All (λ (x : Isr). isr_height (stacks (takable_count app)) x ≤ 7182701536) app.isrs
+  isr_few k d lt =
+      let x = get_or app.isrs k d in
+      let blocks : x.count ≤ 65535 = omega (arith, (app.valid.each_isr k d lt).inside, app.valid.few_blocks) in
+      let once = few_live x.count (stacks (takable_count app)) 0 blocks (few_stacks (takable_count app) takable_few) (omega arith) in
+      omega (arith, once.0)
+
+  pub height_most : HasMasks app → height app ≤ 58668307712832
   height_most masks =
       let tasks = sum_by-le (task_height (stacks (takable_count app))) 3663177848386 app.tasks task_few in
       let events = sum_by-le event_height 128 app.tasks (event_few masks) in
-      omega (arith, tasks, events, app.valid.few_tasks, app.valid.few_alarms)
+      let ticks = sum_by-le tick_height 65536 app.counters tick_few in
+      let isrs = sum_by-le (isr_height (stacks (takable_count app))) 7182701536 app.isrs isr_few in
+      omega (arith, tasks, events, ticks, isrs, app.valid.few_tasks, app.valid.few_alarms, app.valid.few_counters, app.valid.few_isrs)
 
   pub height_few : HasMasks app → height app < 2 ^ 64
   height_few masks = omega (arith, height_most masks)

@@ -1,5 +1,4 @@
-pub mod AloneLaws
-pub mod ClosedLaws
+pub mod RoutineOwners
 pub mod RegularLaws
 pub mod SettledParts
 pub mod ContainmentLaws

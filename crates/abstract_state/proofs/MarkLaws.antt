@@ -13,7 +13,7 @@ abbrev itself : Stepped → Stepped
 itself n = n
 
 alike_itself : (s : State) → IsAlike s s
-alike_itself s = record { processor = refl; tasks = λ t. refl; events = λ t. refl; alarms = λ a. refl; entered = λ k. refl; routines = λ k. refl }
+alike_itself s = record { processor = refl; tasks = λ t. refl; events = λ t. refl; alarms = λ a. refl; sources = λ k. refl }
 
 module _ (app : App) (s : State) where
   record Instructs (choice : Bool) (n : Stepped) (o : Outcome) (x : Option Status) : Type 0 where
@@ -83,5 +83,5 @@ module _ (app : App) (s : State) where
   -- a step that shows nothing changes nothing that a table keeps
   pub shown_silent : (e : Event) → shows app s e ≡ Silent → IsAlike s (step app s e).state
   shown_silent (Run choice) e = run_stays choice s.processor e
-  shown_silent (Irq i) e = record { processor = refl; tasks = λ t. refl; events = λ t. refl; alarms = λ a. refl; entered = λ k. refl; routines = λ k. refl }
-  shown_silent (Tick c) e = record { processor = refl; tasks = λ t. refl; events = λ t. refl; alarms = λ a. refl; entered = λ k. refl; routines = λ k. refl }
+  shown_silent (Irq i) e = record { processor = refl; tasks = λ t. refl; events = λ t. refl; alarms = λ a. refl; sources = λ k. refl }
+  shown_silent (Tick c) e = record { processor = refl; tasks = λ t. refl; events = λ t. refl; alarms = λ a. refl; sources = λ k. refl }

@@ -2,9 +2,9 @@
 use Rattle.std.proofs.Common.{◌≡◌, ℕ, zero, suc, ◌+◌, ◌<◌, List, ◌++◌, length, map, flat_map, length-append, refl, sym, ap, ◌∙◌, arith, add-one}
 use Rattle.std.specs.{Prelude.{◌^◌, count_ones}, List.{range_with_len}}
 use Rattle.std.proofs.lemmas.List.{get_or_default, length-map}
-use Rattle.osek_values.specs.{Numbers.{task_no, event_no, alarm_no}, Bits.{has_bit}}
+use Rattle.osek_values.specs.{Numbers.{task_no, event_no, alarm_no, source_no}, Bits.{has_bit}}
 use Rattle.osek_values.proofs.BitCounts.{bits_counted}
-use Rattle.osek_standard.specs.{declared.app.App.{App}, Apps.{the_task}}
+use Rattle.osek_standard.specs.{declared.app.App.{App}, Apps.{the_task, source_count}}
 use Rattle.osek_standard.proofs.Members.{Among, among_contained, among_left, among_right, among_map, among_flat_map, among_range, among_passing}
 use Rattle.abstract_state.specs.declared.value.Component.{Component}
 use Rattle.abstract_state.specs.declared.value.Component.TheVariants as component
@@ -21,19 +21,28 @@ module _ (app : App) where
   abbrev of_alarms : List Component
   of_alarms = map (λ a. component.Alarm (alarm_no a)) (range_with_len 0 (length app.alarms))
 
+  abbrev of_sources : List Component
+  of_sources = map (λ k. component.Source (source_no k)) (range_with_len 0 (source_count app))
+
   listed : (k : Component) → IsComponent app k → Among k (components app)
   listed (component.Task t) h =
-      among_left (component.Task t) (of_tasks ++ of_events) of_alarms
+      among_left (component.Task t) ((of_tasks ++ of_events) ++ of_alarms) of_sources
+      (among_left (component.Task t) (of_tasks ++ of_events) of_alarms
       (among_left (component.Task t) of_tasks of_events
-      (among_map (λ u. component.Task (task_no u)) t.0 (range_with_len 0 (length app.tasks)) (among_range 0 (length app.tasks) t.0 (omega arith) (omega (arith, h)))))
+      (among_map (λ u. component.Task (task_no u)) t.0 (range_with_len 0 (length app.tasks)) (among_range 0 (length app.tasks) t.0 (omega arith) (omega (arith, h))))))
   listed (component.Event t j) h =
-      among_left (component.Event t j) (of_tasks ++ of_events) of_alarms
+      among_left (component.Event t j) ((of_tasks ++ of_events) ++ of_alarms) of_sources
+      (among_left (component.Event t j) (of_tasks ++ of_events) of_alarms
       (among_right (component.Event t j) of_tasks of_events
       (among_flat_map (events_of app) t.0 (component.Event t j) (range_with_len 0 (length app.tasks)) (among_range 0 (length app.tasks) t.0 (omega arith) (omega (arith, h.0)))
-      (among_map (λ k. component.Event (task_no t.0) (event_no k)) j.0 (own_bits app t.0) (among_passing (has_bit (the_task app t.0).own.0) 64 j.0 h.1 h.2))))
+      (among_map (λ k. component.Event (task_no t.0) (event_no k)) j.0 (own_bits app t.0) (among_passing (has_bit (the_task app t.0).own.0) 64 j.0 h.1 h.2)))))
   listed (component.Alarm a) h =
-      among_right (component.Alarm a) (of_tasks ++ of_events) of_alarms
-      (among_map (λ u. component.Alarm (alarm_no u)) a.0 (range_with_len 0 (length app.alarms)) (among_range 0 (length app.alarms) a.0 (omega arith) (omega (arith, h))))
+      among_left (component.Alarm a) ((of_tasks ++ of_events) ++ of_alarms) of_sources
+      (among_right (component.Alarm a) (of_tasks ++ of_events) of_alarms
+      (among_map (λ u. component.Alarm (alarm_no u)) a.0 (range_with_len 0 (length app.alarms)) (among_range 0 (length app.alarms) a.0 (omega arith) (omega (arith, h)))))
+  listed (component.Source k) h =
+      among_right (component.Source k) ((of_tasks ++ of_events) ++ of_alarms) of_sources
+      (among_map (λ u. component.Source (source_no u)) k.0 (range_with_len 0 (source_count app)) (among_range 0 (source_count app) k.0 (omega arith) (omega (arith, h))))
 
   record StandsAt (k : Component) : Type 0 where
     place : ℕ

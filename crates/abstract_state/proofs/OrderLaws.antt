@@ -8,8 +8,9 @@ use Rattle.std.proofs.lemmas.{List.{take_all, Sorted.{IsPermutation-insert, list
 use Rattle.std.proofs.lemmas.Map.Lookups.{exact_bytes, btree_set_from_contains}
 use Rattle.std.specs.BTreeSet.{BTreeSet}
 use Rattle.osek_values.specs.{Numbers.{block_no, res_no}, declared.numbers.ResNo.{ResNo}}
-use Rattle.abstract_state.specs.declared.value.{Val.{Val, TheVariants.{Suspended, Live, Waiting}}, PartValue.{PartValue, TheVariants.{OfTask, OfEvent, OfAlarm}}}
-use Rattle.abstract_state.specs.ValueOrder.{val_fields, flag_field, part_fields, part_order, same_part, IsAscending, ArePassed, IsPlace, IsGap}
+use Rattle.abstract_state.specs.declared.value.{Val.{Val, TheVariants.{Suspended, Live, Waiting}}, SourceVal.{SourceVal}, PartValue.{PartValue, TheVariants.{OfTask, OfEvent, OfAlarm, OfSource}}}
+use Rattle.abstract_state.specs.declared.value.SourceVal.TheVariants as source_val
+use Rattle.abstract_state.specs.ValueOrder.{val_fields, flag_field, source_fields, part_fields, part_order, same_part, IsAscending, ArePassed, IsPlace, IsGap}
 
 pub order_total : IsTotalOrder part_order
 order_total = on_total part_fields nat_list_cmp_total
@@ -56,10 +57,20 @@ same_val (Live x) (Live y) e =
 same_val (Waiting b) (Waiting c) e = let block : b.0 ≡ c.0 = cc in ap (λ (n : ℕ). Waiting (block_no n)) block
 same_val _ _ e = absurd (cc)
 
+same_source : (v w : SourceVal) → source_fields v ≡ source_fields w → v ≡ w
+same_source source_val.Out source_val.Out e = refl
+same_source (source_val.In x) (source_val.In y) e =
+    let block : x.block.0 ≡ y.block.0 = cc in
+    let stack : map (λ (q : ResNo). q.0) x.held ≡ map (λ (q : ResNo). q.0) y.held = cc in
+    let held = same_stack x.held y.held stack in
+    λ i. source_val.In (record { block = block_no (block i); held = held i })
+same_source _ _ e = absurd (cc)
+
 same_fields : (v w : PartValue) → part_fields v ≡ part_fields w → v ≡ w
 same_fields (OfTask v) (OfTask w) e = let fields : val_fields v ≡ val_fields w = cc in ap OfTask (same_val v w fields)
 same_fields (OfEvent a) (OfEvent b) e = let flag : flag_field a ≡ flag_field b = cc in ap OfEvent (same_flag a b flag)
 same_fields (OfAlarm a) (OfAlarm b) e = let flag : flag_field a ≡ flag_field b = cc in ap OfAlarm (same_flag a b flag)
+same_fields (OfSource v) (OfSource w) e = let fields : source_fields v ≡ source_fields w = cc in ap OfSource (same_source v w fields)
 same_fields _ _ e = absurd (cc)
 
 tied : (o : Ordering) → is_eq o ≡ true → o ≡ Equal

@@ -17,8 +17,9 @@ with_latches free latched = record free { latched = latched }
 abbrev pub with_offset : Free → ℕ → ℕ → Free
 with_offset free t o = record free { offset = λ u. if u == t then o else free.offset u }
 
-abbrev pub with_routine_offset : Free → ℕ → Free
-with_routine_offset free o = record free { routine_offset = o }
+-- and so does the routine of a source that is In
+abbrev pub with_routine_offset : Free → ℕ → ℕ → Free
+with_routine_offset free k o = record free { routine_offset = λ l. if l == k then o else free.routine_offset l }
 
 -- an alarm, where it is armed, expires at this time, and has this cycle
 abbrev pub with_arming : Free → ℕ → ℕ → ℕ → Free

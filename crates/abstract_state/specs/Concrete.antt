@@ -1,7 +1,7 @@
 -- States by their parts: one value for each component, and a choice of all that a table doesn't keep.
-use Rattle.std.specs.Prelude.{◌≡◌, ⊤, ℕ, zero, suc, ◌+◌, ◌*◌, ◌<◌, ◌≤◌, Bool, true, false, ◌&&◌, ◌==◌, nat_lt, List, [], length, map, if◌then◌else◌, slice_index_or, IfSome}
+use Rattle.std.specs.Prelude.{◌≡◌, ⊤, ℕ, zero, suc, ◌+◌, ◌*◌, ◌<◌, ◌≤◌, Bool, true, false, ◌&&◌, ◌==◌, nat_lt, List, length, map, if◌then◌else◌, slice_index_or, IfSome}
 use Rattle.std.specs.{List.{range_with_len, count_by}, declared.option.Option.{Option}}
-use Rattle.osek_values.specs.{Numbers.{task_no, event_no, alarm_no, mask}, declared.numbers.{TaskNo.{TaskNo}, BlockNo.{BlockNo}, ModeNo.{ModeNo}, SourceNo.{SourceNo}}}
+use Rattle.osek_values.specs.{Numbers.{task_no, event_no, alarm_no, source_no, mask}, declared.numbers.{TaskNo.{TaskNo}, BlockNo.{BlockNo}, ModeNo.{ModeNo}, SourceNo.{SourceNo}}}
 use Rattle.osek_values.specs.Bits.{has_bit}
 use Rattle.osek_standard.specs.declared.{app.App.{App}, task_state.{TaskState.{TaskState}, Activity.{Activity}}}
 use Rattle.osek_standard.specs.declared.task_state.Activity.TheVariants as activity
@@ -12,7 +12,9 @@ use Rattle.osek_standard.specs.declared.state.Processor.TheVariants as processor
 use Rattle.osek_standard.specs.{Apps.{the_task, the_counter, the_block, source_count}, States.{task_of}, Line.{places_due}, Effects.{place_at}, Well.{Well, IsOwn, IsOfRoutine, IsOffsetAt, IsArmed}}
 use Rattle.osek_standard.specs.declared.point.Point.{Point}
 use Rattle.osek_standard.specs.declared.point.Point.TheVariants as point
-use Rattle.abstract_state.specs.declared.value.{Val.{Val, TheVariants.{Suspended, Live, Waiting}}, LiveVal.{LiveVal}, PartValue.{PartValue, TheVariants.{OfTask, OfEvent, OfAlarm}}}
+use Rattle.abstract_state.specs.declared.value.{Val.{Val, TheVariants.{Suspended, Live, Waiting}}, LiveVal.{LiveVal}, SourceVal.{SourceVal}, RoutineVal.{RoutineVal}}
+use Rattle.abstract_state.specs.declared.value.PartValue.{PartValue, TheVariants.{OfTask, OfEvent, OfAlarm, OfSource}}
+use Rattle.abstract_state.specs.declared.value.SourceVal.TheVariants as source_val
 use Rattle.abstract_state.specs.declared.value.Component.TheVariants as component
 use Rattle.osek_standard.specs.Points.{point_of}
 use Rattle.abstract_state.specs.{Components.{component_count, component_number, abstract_of, IsAllowed}, Regular.{IsRegular}}
@@ -25,8 +27,8 @@ pub record Free : Type 0 where
   -- the task that stands at the point, or the source whose routine does
   pub task : TaskNo
   pub source : SourceNo
-  -- how far the routine, and each Live task, is in its block
-  pub routine_offset : ℕ
+  -- how far the routine of each source that is In, and each Live task, is in its block
+  pub routine_offset : ℕ → ℕ
   pub offset : ℕ → ℕ
   -- when each armed alarm expires, and its cycle
   pub due : ℕ → ℕ
@@ -38,11 +40,19 @@ abbrev pub val_of : PartValue → Val
 val_of (OfTask v) = v
 val_of (OfEvent b) = Suspended
 val_of (OfAlarm b) = Suspended
+val_of (OfSource v) = Suspended
 
 abbrev pub flag_of : PartValue → Bool
 flag_of (OfTask v) = false
 flag_of (OfEvent b) = b
 flag_of (OfAlarm b) = b
+flag_of (OfSource v) = false
+
+abbrev pub source_val_of : PartValue → SourceVal
+source_val_of (OfTask v) = source_val.Out
+source_val_of (OfEvent b) = source_val.Out
+source_val_of (OfAlarm b) = source_val.Out
+source_val_of (OfSource v) = v
 
 abbrev pub activity_of : Val → ℕ → Activity
 activity_of Suspended o = activity.Suspended
@@ -52,6 +62,14 @@ activity_of (Waiting b) o = activity.Waiting b
 abbrev pub alarm_of : Bool → ℕ → ℕ → AlarmState
 alarm_of false at cycle = alarm.Idle
 alarm_of true at cycle = alarm.Armed at cycle
+
+abbrev pub source_of : SourceVal → ℕ → Source
+source_of source_val.Out o = source.Out
+source_of (source_val.In x) o = source.In (record { at = place_at x.block o; held = x.held })
+
+-- the value of a source
+abbrev pub value_of_source : App → (ℕ → PartValue) → ℕ → PartValue
+value_of_source app value k = value (component_number app (component.Source (source_no k)))
 
 -- the number of so many bits whose bit k is set where the test passes
 abbrev pub bits_number : (ℕ → Bool) → ℕ → ℕ
@@ -68,11 +86,8 @@ module _ (app : App) (p : Point) (value : ℕ → PartValue) (free : Free) where
   abbrev pub alarm_chosen : ℕ → AlarmState
   alarm_chosen a = alarm_of (flag_of (value (component_number app (component.Alarm (alarm_no a))))) (free.due a) (free.cycle a)
 
-  abbrev pub source_by : Point → ℕ → Source
-  source_by point.Halted k = source.Out
-  source_by point.Idle k = source.Out
-  source_by (point.Task b) k = source.Out
-  source_by (point.Routine b over) k = if k == free.source.0 then source.In (record { at = place_at b free.routine_offset; held = [] }) else source.Out
+  abbrev pub source_chosen : ℕ → Source
+  source_chosen k = source_of (source_val_of (value_of_source app value k)) (free.routine_offset k)
 
   abbrev pub processor_by : Point → Processor
   processor_by point.Halted = processor.Halted
@@ -92,7 +107,7 @@ module _ (app : App) (p : Point) (value : ℕ → PartValue) (free : Free) where
     tasks = map task_chosen (range_with_len 0 (length app.tasks));
     counters = free.counters;
     alarms = map alarm_chosen (range_with_len 0 (length app.alarms));
-    sources = map (source_by p) (range_with_len 0 (source_count app));
+    sources = map source_chosen (range_with_len 0 (source_count app));
     latched = free.latched;
     line = free.line;
   }
@@ -101,7 +116,6 @@ module _ (app : App) (p : Point) (value : ℕ → PartValue) (free : Free) where
   pub record IsRoutineAt (b : BlockNo) (over : Option TaskNo) : Type 0 where
     pub known : free.source.0 < source_count app
     pub own : IsOfRoutine app free.source.0 b.0
-    pub offset : IsOffsetAt (the_block app b.0).kind free.routine_offset
     pub interrupted : IfSome over (λ t. t.0 < length app.tasks)
 
   abbrev pub StandsThere : Point → Type 0
@@ -118,6 +132,7 @@ module _ (app : App) (p : Point) (value : ℕ → PartValue) (free : Free) where
     pub latched_len : length free.latched ≡ source_count app
     pub stands : StandsThere p
     pub offsets : (t : ℕ) (x : LiveVal) → t < length app.tasks → value t ≡ OfTask (Live x) → IsOffsetAt (the_block app x.block.0).kind (free.offset t)
+    pub routine_offsets : (k : ℕ) (x : RoutineVal) → k < source_count app → value_of_source app value k ≡ OfSource (source_val.In x) → IsOffsetAt (the_block app x.block.0).kind (free.routine_offset k)
     pub alarms : (a : ℕ) → a < length app.alarms → IsArmed app a (free.due a) (free.cycle a)
     -- each task stands there as often as it has to
     pub line : (t : ℕ) → count_by (λ (n : TaskNo). n.0 == t) free.line ≡ places_wanted t

@@ -39,3 +39,4 @@ abbrev pub settled_part_of : App → State → Outcome → Component → PartVal
 settled_part_of app s o (component.Task t) = OfTask (settled_val app (runner_after s o) t.0 (value_in (task_state s t.0).activity))
 settled_part_of app s o (component.Event t k) = part_of s (component.Event t k)
 settled_part_of app s o (component.Alarm a) = part_of s (component.Alarm a)
+settled_part_of app s o (component.Source k) = part_of s (component.Source k)

@@ -2,25 +2,40 @@
 use Rattle.std.specs.{Prelude.{◌≡◌, ℕ, ◌<◌, ◌≤◌, Bool, true, false, List, [], ◌∷◌, length, map, take, slice_index_or, All}, Cmp.Lexicographic.{slice_cmp}}
 use Rattle.std.specs.{List.Sorted.{IsStrictlySortedBy}, Ordering.{nat_cmp, eq_by_cmp}, declared.cmp.Ordering.{Ordering, TheVariants.{Less}}}
 use Rattle.osek_values.specs.declared.numbers.ResNo.{ResNo}
-use Rattle.abstract_state.specs.declared.value.{LiveVal.{LiveVal}, Val.{Val, TheVariants.{Suspended, Live, Waiting}}, PartValue.{PartValue, TheVariants.{OfTask, OfEvent, OfAlarm}}}
+use Rattle.abstract_state.specs.declared.value.{LiveVal.{LiveVal}, Val.{Val, TheVariants.{Suspended, Live, Waiting}}, SourceVal.{SourceVal}, RoutineVal.{RoutineVal}}
+use Rattle.abstract_state.specs.declared.value.PartValue.{PartValue, TheVariants.{OfTask, OfEvent, OfAlarm, OfSource}}
+use Rattle.abstract_state.specs.declared.value.SourceVal.TheVariants as source_val
 
 abbrev pub flag_field : Bool → ℕ
 flag_field false = 0
 flag_field true = 1
 
--- the block, the further activations, whether it is inside, how many resources are held, and these, the first taken first
+-- how many resources are held, and these, the first taken first
+abbrev pub held_fields : List ResNo → List ℕ
+held_fields held = length held ∷ map (λ (q : ResNo). q.0) held
+
+-- the block, the further activations, whether it is inside, and what is held
 abbrev pub live_fields : LiveVal → List ℕ
-live_fields x = x.block.0 ∷ x.further ∷ flag_field x.inside ∷ length x.held ∷ map (λ (q : ResNo). q.0) x.held
+live_fields x = x.block.0 ∷ x.further ∷ flag_field x.inside ∷ held_fields x.held
 
 abbrev pub val_fields : Val → List ℕ
 val_fields Suspended = 0 ∷ []
 val_fields (Live x) = 1 ∷ live_fields x
 val_fields (Waiting b) = 2 ∷ b.0 ∷ []
 
+-- the block, and what is held
+abbrev pub routine_fields : RoutineVal → List ℕ
+routine_fields x = x.block.0 ∷ held_fields x.held
+
+abbrev pub source_fields : SourceVal → List ℕ
+source_fields source_val.Out = 0 ∷ []
+source_fields (source_val.In x) = 1 ∷ routine_fields x
+
 abbrev pub part_fields : PartValue → List ℕ
 part_fields (OfTask v) = 0 ∷ val_fields v
 part_fields (OfEvent b) = 1 ∷ flag_field b ∷ []
 part_fields (OfAlarm b) = 2 ∷ flag_field b ∷ []
+part_fields (OfSource v) = 3 ∷ source_fields v
 
 -- How a value stands to another.
 abbrev pub part_order : PartValue → PartValue → Ordering

@@ -1,10 +1,11 @@
 //! The domains of an application's components.
-ghost use Rattle.std.specs.Prelude.{◌≡◌};
-ghost use Rattle.abstract_state.specs.{Components.{IsComponent}, Domains.{domain_of as domain_of_component, takable_resources as takable_of}};
+ghost use Rattle.std.specs.Prelude.{◌≡◌, ◌<◌};
+ghost use Rattle.osek_standard.specs.Apps.{source_count, routine_count};
+ghost use Rattle.abstract_state.specs.{Components.{IsComponent}, Domains.{domain_of as domain_of_component, takable_resources as takable_of, takable_by_source}};
 
 use crate::value::{Component, Domain};
 use osek_standard::App;
-use osek_values::Mask;
+use osek_values::{Mask, SourceNo};
 
 /// The resources that may stand on a stack.
 fn takable_resources(app: &App) -> Mask
@@ -17,6 +18,30 @@ fn takable_resources(app: &App) -> Mask
         bits = 2 * bits + u64::from(!app.resources.at(resource).internal);
     }
     Mask(bits)
+}
+
+/// The resources that may stand on a routine's stack: a tick routine takes none.
+fn takable_of_source(app: &App, source: SourceNo) -> Mask
+    ensures { result ≡ takable_by_source app.now source.0 }
+{
+    if source.index() < app.counters.len() {
+        Mask(0)
+    } else {
+        takable_resources(app)
+    }
+}
+
+/// How many blocks a source's routine has.
+pub fn routine_size(app: &App, source: SourceNo) -> u16
+    requires { source.0 < source_count app.now }
+    ensures { result ≡ routine_count app.now source.0 }
+{
+    let counters = app.counters.len();
+    if source.index() < counters {
+        app.counters.at(source.index()).count
+    } else {
+        app.isrs.at(source.index() - counters).count
+    }
 }
 
 /// What the values of a component are values of.
@@ -37,5 +62,10 @@ pub fn domain_of(app: &App, component: Component) -> Domain
         }
         Component::Event { .. } => Domain::Event,
         Component::Alarm(_) => Domain::Alarm,
+        Component::Source(source) => Domain::Source {
+            first: app.routine_start(source),
+            count: routine_size(app, source),
+            takable: takable_of_source(app, source),
+        },
     }
 }

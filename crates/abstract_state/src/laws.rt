@@ -9,11 +9,11 @@ ghost use Rattle.image_model.specs.declared.image.Version.TheVariants as version
 ghost use Rattle.image_model.specs.{ImageStep.{image_step}, Laws.{IsKernelsRun}};
 ghost use Rattle.osek_standard.specs.declared.point.Point.{Point};
 ghost use Rattle.abstract_state.specs.declared.{table.{ValueSet.{ValueSet}, PlainEntry.{PlainEntry}, PlainTable.{PlainTable}}, value.Component.{Component}};
-ghost use Rattle.abstract_state.specs.declared.value.{LiveVal.{LiveVal}, Val.TheVariants.{Live}, PartValue.{PartValue, TheVariants.{OfTask}}};
-ghost use Rattle.osek_standard.specs.declared.point.Point.TheVariants as point;
+ghost use Rattle.abstract_state.specs.declared.value.{LiveVal.{LiveVal}, RoutineVal.{RoutineVal}, Val.TheVariants.{Live}, PartValue.{PartValue, TheVariants.{OfTask, OfSource}}};
+ghost use Rattle.abstract_state.specs.declared.value.SourceVal.TheVariants as source_val;
 ghost use Rattle.osek_standard.specs.Points.{point_of, IsPoint, StandsAt};
 ghost use Rattle.abstract_state.specs.Components.{component_at, component_count, component_number, abstract_of, IsAllowed, IsComponent};
-ghost use Rattle.abstract_state.specs.Concrete.{Free, IsFree, AreAllowed, HasParts, state_of};
+ghost use Rattle.abstract_state.specs.Concrete.{Free, IsFree, AreAllowed, HasParts, state_of, value_of_source};
 ghost use Rattle.abstract_state.specs.Choices.{with_latches, with_offset, with_routine_offset, with_arming, with_counter, with_first, IsQuiet, IsQuietAt, IsQuietWith, IsLatchedAlone};
 ghost use Rattle.abstract_state.specs.{Alike.{IsAlike}, Regular.{IsRegular}};
 ghost use Rattle.abstract_state.specs.Tables.{Sets, In, Inductive, IsContained, Least, meet, full, IsSubset, IsJoin, IsPartOfJoin, IsSetBySet, set_at, sets_of, HasRow, HasValue};
@@ -178,7 +178,7 @@ pub fn components_stand_at_their_numbers()
 pub fn all_else_may_be_chosen()
     ensures latches { (app : App) (p : Point) (value : ℕ → PartValue) (free : Free) → IsFree app p value free → (latched : List Bool) → length latched ≡ source_count app → IsFree app p value (with_latches free latched) }
     ensures offset { (app : App) (p : Point) (value : ℕ → PartValue) (free : Free) → IsFree app p value free → (t o : ℕ) → ((x : LiveVal) → value t ≡ OfTask (Live x) → IsOffsetAt (the_block app x.block.0).kind o) → IsFree app p value (with_offset free t o) }
-    ensures routine_offset { (app : App) (p : Point) (value : ℕ → PartValue) (free : Free) → IsFree app p value free → (o : ℕ) → ((b : BlockNo) (over : Option TaskNo) → p ≡ point.Routine b over → IsOffsetAt (the_block app b.0).kind o) → IsFree app p value (with_routine_offset free o) }
+    ensures routine_offset { (app : App) (p : Point) (value : ℕ → PartValue) (free : Free) → IsFree app p value free → (k o : ℕ) → ((x : RoutineVal) → value_of_source app value k ≡ OfSource (source_val.In x) → IsOffsetAt (the_block app x.block.0).kind o) → IsFree app p value (with_routine_offset free k o) }
     ensures arming { (app : App) (p : Point) (value : ℕ → PartValue) (free : Free) → IsFree app p value free → (a at cycle : ℕ) → IsArmed app a at cycle → IsFree app p value (with_arming free a at cycle) }
     ensures counter { (app : App) (p : Point) (value : ℕ → PartValue) (free : Free) → IsFree app p value free → (c x : ℕ) → x ≤ (the_counter app c).max → IsFree app p value (with_counter free c x) }
     ensures first { (app : App) (p : Point) (value : ℕ → PartValue) (free : Free) → IsFree app p value free → (t : ℕ) → IsFree app p value (with_first free t) }

@@ -10,9 +10,9 @@ mod numbering;
 mod table;
 mod value;
 
-pub use domains::domain_of;
+pub use domains::{domain_of, routine_size};
 pub use edge::FlowEdge;
 pub use numbering::{component_number, components, masks_are_few, own_events};
 pub use osek_standard::Point;
 pub use table::{PlainEntry, PlainTable, TableRow, ValueSet};
-pub use value::{Component, ComponentNo, Domain, LiveVal, PartValue, Val};
+pub use value::{Component, ComponentNo, Domain, LiveVal, PartValue, RoutineVal, SourceVal, Val};

@@ -1,14 +1,14 @@
 //! The components of an application, and their numbers.
 ghost use Rattle.std.specs.{Prelude.{◌≡◌, ◌+◌, ◌<◌, ◌≤◌, ◌^◌, ◌++◌, count_ones, length, map, flat_map, IfOk, OnOk}, List.{range_with_len}};
-ghost use Rattle.osek_values.specs.{Numbers.{task_no, event_no, alarm_no}, Bits.{has_bit, passing_below}};
-ghost use Rattle.osek_standard.specs.Apps.{the_task};
+ghost use Rattle.osek_values.specs.{Numbers.{task_no, event_no, alarm_no, source_no}, Bits.{has_bit, passing_below}};
+ghost use Rattle.osek_standard.specs.Apps.{the_task, source_count};
 ghost use Rattle.abstract_state.specs.declared.value.Component.TheVariants as component;
 ghost use Rattle.abstract_state.specs.Components.{own_bits, events_of, event_start as event_start_of, components as components_of, component_number as component_number_of, IsComponent};
 ghost use Rattle.abstract_state.specs.Domains.{HasMasks};
 
 use crate::value::{Component, ComponentNo};
 use osek_standard::App;
-use osek_values::{AlarmNo, EventNo, Mask, Memory, Seq, TaskNo};
+use osek_values::{AlarmNo, EventNo, Mask, Memory, Seq, SourceNo, TaskNo};
 use std::alloc::Global;
 
 /// The components of an application's states, in the order of their numbers.
@@ -19,6 +19,7 @@ pub fn components(alloc: Global, app: &App) -> Result<Seq<Component>, Memory>
     push_tasks(app, &mut all)?;
     push_events(alloc, app, &mut all)?;
     push_alarms(app, &mut all)?;
+    push_sources(app, &mut all)?;
     Ok(all)
 }
 
@@ -65,6 +66,15 @@ fn push_alarms(app: &App, all: &mut Seq<Component>) -> Result<(), Memory>
     Ok(())
 }
 
+fn push_sources(app: &App, all: &mut Seq<Component>) -> Result<(), Memory>
+    ensures { OnOk result (all.new ≡ all.old ++ map (λ k. component.Source (source_no k)) (range_with_len 0 (source_count app.now))) }
+{
+    for source in 0..app.counters.len() + app.isrs.len() {
+        all.push(Component::Source(SourceNo(source as u8)))?;
+    }
+    Ok(())
+}
+
 /// The numbers of a task's own events.
 pub fn own_events(alloc: Global, app: &App, task: TaskNo) -> Result<Seq<EventNo>, Memory>
     requires { task.0 < length app.now.tasks }
@@ -94,6 +104,10 @@ pub fn component_number(app: &App, component: Component) -> ComponentNo
         }
         Component::Alarm(alarm) => {
             ComponentNo(tasks as u16 + event_start(app, tasks) + alarm.0 as u16)
+        }
+        Component::Source(source) => {
+            let alarms = app.alarms.len() as u16;
+            ComponentNo(tasks as u16 + event_start(app, tasks) + alarms + source.0 as u16)
         }
     }
 }

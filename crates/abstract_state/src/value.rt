@@ -1,7 +1,8 @@
 //! The parts of a state that a table keeps, and what they can be.
-ghost use Rattle.std.specs.Prelude.{◌≡◌};
+ghost use Rattle.std.specs.{Prelude.{◌≡◌}, Cmp.Lexicographic.{slice_cmp}, Ordering.{nat_cmp}};
+ghost use Rattle.abstract_state.specs.ValueOrder.{held_fields};
 
-use osek_values::{AlarmNo, BlockNo, EventNo, Held, Mask, TaskNo};
+use osek_values::{AlarmNo, BlockNo, EventNo, Held, Mask, SourceNo, TaskNo};
 use std::cmp::Ordering;
 
 /// Where a Live task stands, but for the offset, and what it has.
@@ -25,15 +26,32 @@ pub enum Val {
     Waiting(BlockNo),
 }
 
-/// A part of a state: what a task does, whether an event of an extended task is set, or whether an alarm is armed.
+/// Where a routine stands, but for the offset, and what it holds.
+#[derive(Drop)]
+pub struct RoutineVal {
+    pub block: BlockNo,
+    pub held: Held,
+}
+
+/// What a table keeps of an interrupt source.
+#[derive(Drop)]
+pub enum SourceVal {
+    Out,
+    /// Its routine began and hasn't ended.
+    In(RoutineVal),
+}
+
+/// A part of a state: what a task does, whether an event of an extended task is set, whether an alarm is armed, or what
+/// the routine of an interrupt source does.
 #[derive(Clone, Copy, PartialEq, Eq, Debug)]
 pub enum Component {
     Task(TaskNo),
     Event { task: TaskNo, bit: EventNo },
     Alarm(AlarmNo),
+    Source(SourceNo),
 }
 
-/// The number of a component: the tasks come first, then each task's own events, then the alarms.
+/// The number of a component: the tasks come first, then each task's own events, then the alarms, then the sources.
 #[derive(Clone, Copy, PartialEq, Eq, Debug)]
 pub struct ComponentNo(pub u16);
 
@@ -64,6 +82,12 @@ pub enum Domain {
     Event,
     /// An alarm, armed or idle.
     Alarm,
+    /// A source whose routine has these blocks, and can take these resources.
+    Source {
+        first: BlockNo,
+        count: u16,
+        takable: Mask,
+    },
 }
 
 /// What a part of a state can be.
@@ -74,6 +98,16 @@ pub enum PartValue {
     OfEvent(bool),
     /// The alarm is armed.
     OfAlarm(bool),
+    OfSource(SourceVal),
+}
+
+// by the number of resources, then by these
+fn stack_order(held: &Held, kept: &Held) -> Ordering
+    ensures { result ≡ slice_cmp nat_cmp (held_fields held.now) (held_fields kept.now) }
+{
+    let held = held.as_slice();
+    let kept = kept.as_slice();
+    held.len().cmp(&kept.len()).then(held.cmp(kept))
 }
 
 impl LiveVal {
@@ -84,9 +118,7 @@ impl LiveVal {
     fn order(&self, other: &LiveVal) -> Ordering
         ensures { result ≡ slice_cmp nat_cmp (live_fields self.now) (live_fields other.now) }
     {
-        let held = self.held.as_slice();
-        let kept = other.held.as_slice();
-        let by_held = held.len().cmp(&kept.len()).then(held.cmp(kept));
+        let by_held = stack_order(&self.held, &other.held);
         let by_inside = self.inside.cmp(&other.inside).then(by_held);
         let by_further = self.further.cmp(&other.further).then(by_inside);
         self.block.0.cmp(&other.block.0).then(by_further)
@@ -131,6 +163,49 @@ impl Val {
     }
 }
 
+impl RoutineVal {
+    ghost use Rattle.std.specs.{Prelude.{◌≡◌}, Cmp.Lexicographic.{slice_cmp}, Ordering.{nat_cmp}};
+    ghost use Rattle.abstract_state.specs.ValueOrder.{routine_fields};
+
+    /// By block, then by the number of resources, then by these.
+    fn order(&self, other: &RoutineVal) -> Ordering
+        ensures { result ≡ slice_cmp nat_cmp (routine_fields self.now) (routine_fields other.now) }
+    {
+        let by_held = stack_order(&self.held, &other.held);
+        self.block.0.cmp(&other.block.0).then(by_held)
+    }
+}
+
+impl SourceVal {
+    ghost use Rattle.std.specs.{Prelude.{◌≡◌}, Cmp.Lexicographic.{slice_cmp}, Ordering.{nat_cmp}};
+    ghost use Rattle.abstract_state.specs.ValueOrder.{source_fields};
+
+    /// Another that is the same. It takes no memory.
+    pub fn copy(&self) -> SourceVal
+        ensures { result ≡ self.now }
+    {
+        match self {
+            SourceVal::Out => SourceVal::Out,
+            SourceVal::In(routine) => SourceVal::In(RoutineVal {
+                block: routine.block,
+                held: routine.held.copy(),
+            }),
+        }
+    }
+
+    /// Out is before In.
+    pub fn order(&self, other: &SourceVal) -> Ordering
+        ensures { result ≡ slice_cmp nat_cmp (source_fields self.now) (source_fields other.now) }
+    {
+        match (self, other) {
+            (SourceVal::Out, SourceVal::Out) => Ordering::Equal,
+            (SourceVal::In(routine), SourceVal::In(kept)) => routine.order(kept),
+            (SourceVal::Out, SourceVal::In(_)) => Ordering::Less,
+            (SourceVal::In(_), SourceVal::Out) => Ordering::Greater,
+        }
+    }
+}
+
 impl PartValue {
     ghost use Rattle.std.specs.Prelude.{◌≡◌};
     ghost use Rattle.abstract_state.specs.ValueOrder.{part_order, same_part};
@@ -143,6 +218,7 @@ impl PartValue {
             PartValue::OfTask(val) => PartValue::OfTask(val.copy()),
             PartValue::OfEvent(set) => PartValue::OfEvent(*set),
             PartValue::OfAlarm(armed) => PartValue::OfAlarm(*armed),
+            PartValue::OfSource(val) => PartValue::OfSource(val.copy()),
         }
     }
 
@@ -154,12 +230,19 @@ impl PartValue {
             (PartValue::OfTask(val), PartValue::OfTask(to)) => val.order(to),
             (PartValue::OfEvent(set), PartValue::OfEvent(to)) => set.cmp(to),
             (PartValue::OfAlarm(armed), PartValue::OfAlarm(to)) => armed.cmp(to),
+            (PartValue::OfSource(val), PartValue::OfSource(to)) => val.order(to),
             (PartValue::OfTask(_), PartValue::OfEvent(_)) => Ordering::Less,
             (PartValue::OfTask(_), PartValue::OfAlarm(_)) => Ordering::Less,
             (PartValue::OfEvent(_), PartValue::OfAlarm(_)) => Ordering::Less,
+            (PartValue::OfTask(_), PartValue::OfSource(_)) => Ordering::Less,
+            (PartValue::OfEvent(_), PartValue::OfSource(_)) => Ordering::Less,
+            (PartValue::OfAlarm(_), PartValue::OfSource(_)) => Ordering::Less,
             (PartValue::OfEvent(_), PartValue::OfTask(_)) => Ordering::Greater,
             (PartValue::OfAlarm(_), PartValue::OfTask(_)) => Ordering::Greater,
             (PartValue::OfAlarm(_), PartValue::OfEvent(_)) => Ordering::Greater,
+            (PartValue::OfSource(_), PartValue::OfTask(_)) => Ordering::Greater,
+            (PartValue::OfSource(_), PartValue::OfEvent(_)) => Ordering::Greater,
+            (PartValue::OfSource(_), PartValue::OfAlarm(_)) => Ordering::Greater,
         }
     }
 

@@ -2,7 +2,7 @@
 //! find under one name.
 #![tactic(auto)]
 
-pub use oil_system::{CounterObject, EventObject, System, TaskObject};
+pub use oil_system::{CounterObject, EventObject, IsrObject, System, TaskObject};
 pub use osek_standard::{
     Action, Activity, Alarm, AlarmState, App, Block, Call, Caller, Counter, Isr, Kind, Place,
     Point, Processor, Resource, Schedule, Source, Standing, State, Task, TaskState, activate,

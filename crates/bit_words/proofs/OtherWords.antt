@@ -1,11 +1,11 @@
 -- Words of bits: those that other words lack, and whether some bit is in both.
-use Rattle.std.proofs.Common.{◌≡◌, ◌≢◌, ℕ, zero, suc, ◌+◌, ◌*◌, ◌/◌, ◌%◌, ◌^◌, ◌<◌, ◌≤◌, Bool, ◌&&◌, true, false, not, List, [], ◌∷◌, length, get_or, refl, sym, ap, ap₂, ◌∙◌, inl, inr, arith, min}
+use Rattle.std.proofs.Common.{◌≡◌, ◌≢◌, ℕ, zero, suc, ◌+◌, ◌*◌, ◌/◌, ◌%◌, ◌^◌, ◌<◌, ◌≤◌, Bool, ◌&&◌, ◌||◌, true, false, not, List, [], ◌∷◌, length, get_or, refl, sym, ap, ap₂, subst, ◌∙◌, inl, inr, arith, min}
 use Rattle.std.proofs.Math.ListN.{get_or-eq_default}
-use Rattle.std.specs.{Prelude.{◌==◌, bit_and, bit_xor}, Int.{bit_at, Bits.{and_zero_r}}}
+use Rattle.std.specs.{Prelude.{◌==◌, bit_and, bit_or, bit_xor}, Int.{bit_at, Bits.{and_zero_r}}}
 use Rattle.std.proofs.lemmas.{Bool.{cases_eq, cases_lt, eq-eqb, ne_eqb}, List.Elements.{All-head, All-tail, All-from_get_or}}
-use Rattle.std.proofs.lemmas.Nat.{and_comm, and_le_l, and_block, xor_block, xor_lt, Bits.{bit_at_and, bit_at_xor, bit_at-lt}}
+use Rattle.std.proofs.lemmas.Nat.{and_comm, and_le_l, le_or_l, le_or_r, and_block, xor_block, xor_lt, Bits.{bit_at_and, bit_at_xor, bit_at-lt, bit_at-zero}}
 use Rattle.bit_words.specs.Words.{AreWords, bits_of_words}
-use Rattle.bit_words.proofs.{BitCounts.{same_bits}, WordLaws.{word_has, number_at, number_past, small_at, has_of_words}, FirstWords.{word_first}}
+use Rattle.bit_words.proofs.{BitCounts.{same_bits, has_either}, WordLaws.{word_has, number_at, number_past, small_at, has_of_words}, FirstWords.{word_first}}
 use Rattle.osek_values.specs.Bits.{has_bit}
 
 -- a bit of the first word alone
@@ -25,6 +25,30 @@ has_alone a b k =
 
 pub alone_lt : (a b w : ℕ) → a < 2 ^ w → bit_xor a (bit_and a b) < 2 ^ w
 alone_lt a b w lt = xor_lt w a (bit_and a b) lt (let less = and_le_l a b in omega (arith, less, lt))
+
+-- a bit that is not set in the second word alone
+implied : (a b : Bool) → (b && not a) ≡ false → a ≡ (a || b)
+implied true b h = refl
+implied false true h = absurd (cc)
+implied false false h = refl
+
+-- where the second word has no bit that the first lacks, it adds none
+pub nothing_alone : (w o : ℕ) → bit_xor o (bit_and o w) ≡ 0 → w ≡ bit_or w o
+nothing_alone w o none = same_bits w (bit_or w o) (λ k.
+    implied (has_bit w k) (has_bit o k) (sym (has_alone o w k) ∙ ap (λ (n : ℕ). has_bit n k) none ∙ ap (λ (n : ℕ). n == 1) (bit_at-zero k)) ∙ sym (has_either w o k))
+
+-- where those of the earlier places and this one lack no bit, none is lacking up to the next
+pub still_all : (ws us : List ℕ) (place missing now : ℕ) → now ≡ bit_or missing (bit_xor (get_or us place 0) (bit_and (get_or us place 0) (get_or ws place 0)))
+    → (missing ≡ 0 → (i : ℕ) → i < place → get_or ws i 0 ≡ bit_or (get_or ws i 0) (get_or us i 0))
+    → now ≡ 0 → (i : ℕ) → i < place + 1 → get_or ws i 0 ≡ bit_or (get_or ws i 0) (get_or us i 0)
+still_all ws us place missing now is before none i lt =
+    let here = bit_xor (get_or us place 0) (bit_and (get_or us place 0) (get_or ws place 0)) in
+    let least = le_or_l missing here in
+    let most = le_or_r missing here in
+    elim (cases_eq i place) [
+      | inl same ↦ subst (λ (k : ℕ). get_or ws k 0 ≡ bit_or (get_or ws k 0) (get_or us k 0)) (sym same) (nothing_alone (get_or ws place 0) (get_or us place 0) (omega (arith, is, none, most)))
+      | inr other ↦ before (omega (arith, is, none, least)) i (omega (arith, lt, other))
+    ]
 
 -- words of which those up to a place lost the bits of the others
 pub record AreLeftOutUpTo (before other : List ℕ) (k : ℕ) (now : List ℕ) : Type 0 where

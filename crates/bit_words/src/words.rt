@@ -175,18 +175,17 @@ pub fn join(words: &mut [u64], other: &[u64]) -> u64
     join_each(words, other)
 }
 
-// Whether each bit of other words is set. Most joins bring nothing new, and this has no branch for each word.
+// Whether each bit of other words is set. Most joins bring nothing new: the bits that these words lack are gathered in one, which
+// takes half the instructions that a look at each word takes.
 fn have_all(words: &[u64], other: &[u64]) -> bool
     requires { length other.now ≤ length words.now }
     ensures { OnTrue result ((i : ℕ) → i < length other.now → slice_index_or words.now i 0 ≡ bit_or (slice_index_or words.now i 0) (slice_index_or other.now i 0)) }
 {
-    let mut all = true;
+    let mut missing = 0;
     for place in 0..other.len() {
-        if words[place] | other[place] != words[place] {
-            all = false;
-        }
+        missing = missing | without(other[place], words[place]);
     }
-    all
+    missing == 0
 }
 
 // the same, a word after the other

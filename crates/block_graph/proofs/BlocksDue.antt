@@ -1,5 +1,5 @@
 -- The alarms of a counter, in order.
-use Rattle.std.proofs.Common.{◌≡◌, ℕ, ◌+◌, ◌<◌, ◌≤◌, Bool, true, false, eqb, List, [], ◌∷◌, length, map, get_or, drop, add-one, drop-cons, sym, ap, ◌∙◌}
+use Rattle.std.proofs.Common.{◌≡◌, ℕ, ◌+◌, ◌<◌, Bool, true, false, eqb, List, ◌∷◌, length, map, get_or, drop, add-one, drop-cons, sym, ap, ◌∙◌}
 use Rattle.std.specs.{Prelude.{if◌then◌else◌}, List.{filter, enumerate_from}}
 use Rattle.oil_system.specs.declared.objects.Alarm.{Alarm}
 

@@ -1,10 +1,10 @@
 -- No block has two owners.
 use Rattle.std.proofs.Common.{◌≡◌, ℕ, ◌+◌, ◌≤◌, List, [], ◌∷◌, ◌++◌, map, true, false, sym, ◌∙◌, subst, arith, inl, inr}
 use Rattle.std.specs.{Prelude.{◌||◌, nat_lt}, List.{AllByRecursion, IsDistinct, list_any}, Str.{bytes_eq}}
-use Rattle.std.proofs.lemmas.{Bool.{and_left, and_parts, and_right, cases_Bool, cond-false, cond-true, le-ltb, both_ways}, List.{map-id, Sums.{sum_by-cons}}}
+use Rattle.std.proofs.lemmas.{Bool.{and_left, and_parts, and_right, cases_Bool, cond-false, cond-true, le-ltb, both_ways}, List.Sums.{sum_by-cons}}
 use Rattle.std.proofs.lemmas.Slice.Eq.{bytes_eq-Decides}
 use Rattle.osek_standard.specs.{declared.objects.{Counter.{Counter}, Isr.{Isr}, Task.{Task}}, Validity.{due_of, meet, owners}}
-use Rattle.oil_system.specs.declared.system.{CounterObject.{CounterObject}, TaskObject.{TaskObject}, System.{System}}
+use Rattle.oil_system.specs.declared.system.{CounterObject.{CounterObject}, IsrObject.{IsrObject}, TaskObject.{TaskObject}, System.{System}}
 use Rattle.oil_model.specs.Linkable.{IsLinkable}
 use Rattle.oil_model.proofs.Clean.{all_weaker}
 use Rattle.task_code.specs.declared.tree.{Body.{Body}, BodyKind.{BodyKind}, Code.{Code}}
@@ -121,8 +121,8 @@ module _ (s : System) (bodies : List Body) where
   abbrev pub of_task : TaskObject → ℕ × ℕ
   of_task x = extent body_kind.Task x.name bodies 0
 
-  abbrev pub of_isr : List ℕ → ℕ × ℕ
-  of_isr name = extent body_kind.Isr name bodies 0
+  abbrev pub of_isr : IsrObject → ℕ × ℕ
+  of_isr x = extent body_kind.Isr x.name bodies 0
 
   abbrev pub of_counters : List (ℕ × ℕ)
   of_counters = map counter_blocks (counters_of s bodies)
@@ -131,7 +131,7 @@ module _ (s : System) (bodies : List Body) where
   pub owners_are : owners (tasks_of s bodies) (isrs_of s bodies) (counters_of s bodies) ≡ (map of_task s.tasks ++ map of_isr s.isrs) ++ of_counters
   owners_are =
       let of_tasks : map task_blocks (tasks_of s bodies) ≡ map of_task s.tasks = mapped_twice (λ (x : TaskObject). task_with x (of_task x)) task_blocks s.tasks in
-      let of_isrs : map isr_blocks (isrs_of s bodies) ≡ map of_isr s.isrs = mapped_twice (λ (name : List ℕ). isr_with name (of_isr name)) isr_blocks s.isrs in
+      let of_isrs : map isr_blocks (isrs_of s bodies) ≡ map of_isr s.isrs = mapped_twice (λ (x : IsrObject). isr_with x (of_isr x)) isr_blocks s.isrs in
       λ i. (of_tasks i ++ of_isrs i) ++ of_counters
 
 module _ (s : System) (code : Code) (linkable : IsLinkable s) (clean : HasNoFault s code) where
@@ -146,15 +146,15 @@ module _ (s : System) (code : Code) (linkable : IsLinkable s) (clean : HasNoFaul
 
   isrs_apart : IsDistinct meet (map (of_isr s bodies) s.isrs)
   isrs_apart =
-      distinct_values (λ (name : List ℕ). name) (of_isr s bodies) bytes_eq meet (λ (name : List ℕ). list_any (is_code_of body_kind.Isr name) bodies ≡ true)
-      (λ x y here there differ. code_apart body_kind.Isr body_kind.Isr x y (names_apart body_kind.Isr x y differ) bodies 0 here there)
-      s.isrs (isrs_have_code s code clean) (subst (IsDistinct bytes_eq) (sym (map-id s.isrs)) linkable.isr_names.distinct)
+      distinct_values (λ (x : IsrObject). x.name) (of_isr s bodies) bytes_eq meet (λ (x : IsrObject). list_any (is_code_of body_kind.Isr x.name) bodies ≡ true)
+      (λ x y here there differ. code_apart body_kind.Isr body_kind.Isr x.name y.name (names_apart body_kind.Isr x.name y.name differ) bodies 0 here there)
+      s.isrs (isrs_have_code s code clean) linkable.isr_names.distinct
 
   task_from_isrs : (x : TaskObject) → list_any (is_code_of body_kind.Task x.name) bodies ≡ true → AllByRecursion (λ (p : ℕ × ℕ). meet (of_task s bodies x) p ≡ false) (map (of_isr s bodies) s.isrs)
   task_from_isrs x here =
       each_map (λ (p : ℕ × ℕ). meet (of_task s bodies x) p ≡ false) (of_isr s bodies) s.isrs
-      (all_weaker (λ (name : List ℕ). meet (of_task s bodies x) (of_isr s bodies name) ≡ false) (λ (name : List ℕ). list_any (is_code_of body_kind.Isr name) bodies ≡ true) s.isrs
-      (λ name there. code_apart body_kind.Task body_kind.Isr x.name name (kinds_apart x.name name) bodies 0 here there) (isrs_have_code s code clean))
+      (all_weaker (λ (y : IsrObject). meet (of_task s bodies x) (of_isr s bodies y) ≡ false) (λ (y : IsrObject). list_any (is_code_of body_kind.Isr y.name) bodies ≡ true) s.isrs
+      (λ y there. code_apart body_kind.Task body_kind.Isr x.name y.name (kinds_apart x.name y.name) bodies 0 here there) (isrs_have_code s code clean))
 
   tasks_from_isrs : AllByRecursion (λ (o : ℕ × ℕ). AllByRecursion (λ (p : ℕ × ℕ). meet o p ≡ false) (map (of_isr s bodies) s.isrs)) (map (of_task s bodies) s.tasks)
   tasks_from_isrs =
@@ -178,8 +178,8 @@ module _ (s : System) (code : Code) (linkable : IsLinkable s) (clean : HasNoFaul
       (all_weaker (λ (x : TaskObject). AllByRecursion (λ (p : ℕ × ℕ). meet (of_task s bodies x) p ≡ false) (of_counters s bodies)) (λ (x : TaskObject). list_any (is_code_of body_kind.Task x.name) bodies ≡ true) s.tasks
       (λ x e. code_before body_kind.Task x.name e) (tasks_have_code s code clean)))
       (each_map (λ (o : ℕ × ℕ). AllByRecursion (λ (p : ℕ × ℕ). meet o p ≡ false) (of_counters s bodies)) (of_isr s bodies) s.isrs
-      (all_weaker (λ (name : List ℕ). AllByRecursion (λ (p : ℕ × ℕ). meet (of_isr s bodies name) p ≡ false) (of_counters s bodies)) (λ (name : List ℕ). list_any (is_code_of body_kind.Isr name) bodies ≡ true) s.isrs
-      (λ name e. code_before body_kind.Isr name e) (isrs_have_code s code clean)))
+      (all_weaker (λ (x : IsrObject). AllByRecursion (λ (p : ℕ × ℕ). meet (of_isr s bodies x) p ≡ false) (of_counters s bodies)) (λ (x : IsrObject). list_any (is_code_of body_kind.Isr x.name) bodies ≡ true) s.isrs
+      (λ x e. code_before body_kind.Isr x.name e) (isrs_have_code s code clean)))
 
   pub apart : IsDistinct meet (owners (tasks_of s bodies) (isrs_of s bodies) (counters_of s bodies))
   apart =

@@ -3,7 +3,7 @@ use Rattle.std.proofs.Common.{◌≡◌, ℕ, ◌+◌, ◌<◌, ◌≤◌, List,
 use Rattle.std.specs.{Prelude.{nat_le, nat_lt}, List.{AllByRecursion, list_any}, Str.{bytes_eq}}
 use Rattle.std.proofs.lemmas.{Bool.{and_from, cases_lt, le-leb, lt-ltb, or_left, or_right}, List.{length-append, Sums.{sum_by-cons}}, Slice.Eq.{bytes_eq-Decides}}
 use Rattle.osek_standard.specs.Validity.{due_of, is_within, owners}
-use Rattle.oil_system.specs.declared.system.{CounterObject.{CounterObject}, TaskObject.{TaskObject}, System.{System}}
+use Rattle.oil_system.specs.declared.system.{CounterObject.{CounterObject}, IsrObject.{IsrObject}, TaskObject.{TaskObject}, System.{System}}
 use Rattle.task_code.specs.declared.tree.{Body.{Body}, BodyKind.{BodyKind}, Code.{Code}}
 use Rattle.task_code.specs.declared.tree.BodyKind.TheVariants as body_kind
 use Rattle.block_graph.specs.{Apps.{counters_from, counters_of, extent, isrs_of, tasks_of}, Blocks.{app_blocks, routine, routine_size, routines, size, source_blocks, source_size}}
@@ -61,9 +61,9 @@ declared_owner s bodies b body_kind.Task name declared inside =
     any_append_left (is_within b) (map (of_task s bodies) s.tasks) (map (of_isr s bodies) s.isrs)
     (any_map (is_within b) (of_task s bodies) s.tasks found)
 declared_owner s bodies b body_kind.Isr name declared inside =
-    let named = any_from_position (bytes_eq name) s.isrs declared in
-    let found = any_weaker (bytes_eq name) (λ (other : List ℕ). is_within b (of_isr s bodies other)) s.isrs
-    (λ other e. subst (λ (n : List ℕ). is_within b (extent body_kind.Isr n bodies 0) ≡ true) ((bytes_eq-Decides name other).0 e) inside) named in
+    let named = any_from_position (λ (x : IsrObject). bytes_eq name x.name) s.isrs declared in
+    let found = any_weaker (λ (x : IsrObject). bytes_eq name x.name) (λ (x : IsrObject). is_within b (of_isr s bodies x)) s.isrs
+    (λ x e. subst (λ (n : List ℕ). is_within b (extent body_kind.Isr n bodies 0) ≡ true) ((bytes_eq-Decides name x.name).0 e) inside) named in
     any_append_right (is_within b) (map (of_task s bodies) s.tasks) (map (of_isr s bodies) s.isrs)
     (any_map (is_within b) (of_isr s bodies) s.isrs found)
 

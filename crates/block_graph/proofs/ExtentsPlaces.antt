@@ -3,7 +3,7 @@ use Rattle.std.proofs.Common.{◌≡◌, ℕ, zero, suc, ◌+◌, ◌<◌, List,
 use Rattle.std.specs.{Prelude.{◌||◌, slice_index_or, All}, List.{AllByRecursion, list_any}}
 use Rattle.std.proofs.lemmas.{Bool.{and_parts, cases_Bool, cond-false, cond-true, or_parts}, List.{length-append, Sums.{sum_by-cons}}}
 use Rattle.osek_standard.specs.{declared.{block.Block.{Block}, objects.{Counter.{Counter}, Isr.{Isr}, Task.{Task}}}, Validity.{IsIsrCode, IsOwner, IsTaskCode, IsTickCode, due_of}}
-use Rattle.oil_system.specs.declared.system.{CounterObject.{CounterObject}, TaskObject.{TaskObject}, System.{System}}
+use Rattle.oil_system.specs.declared.system.{CounterObject.{CounterObject}, IsrObject.{IsrObject}, TaskObject.{TaskObject}, System.{System}}
 use Rattle.oil_model.specs.Linkable.{IsLinkable}
 use Rattle.oil_model.proofs.Clean.{all_weaker}
 use Rattle.task_code.specs.declared.tree.{Body.{Body}, BodyKind.{BodyKind}, Code.{Code}}
@@ -11,11 +11,11 @@ use Rattle.task_code.specs.declared.tree.BodyKind.TheVariants as body_kind
 use Rattle.task_code.specs.Fit.{AreFit, IsFit}
 use Rattle.block_graph.specs.Apps.{counters_from, counters_of, extent, isr_with, isrs_of, tables_over, task_with, tasks_of}
 use Rattle.block_graph.specs.{Blocks.{app_blocks, body_blocks, routine, routine_size, routines, size, source_blocks, source_size}, Faults.{HasNoFault}}
-use Rattle.block_graph.specs.Rules.{from_calls, is_code_of, is_kind, isr_resources_by}
+use Rattle.block_graph.specs.Rules.{from_calls, is_code_of, is_kind}
 use Rattle.block_graph.proofs.OwnersLaws.{body_is_isr_code, body_is_owner, body_is_task_code, due_inside, routine_is_owner, routine_is_tick_code, routine_length, source_length}
 use Rattle.block_graph.proofs.ExtentsLists.{all_at, behind_front, each_map, each_of}
 use Rattle.block_graph.proofs.OwnersCalls.{wrong_names}
-use Rattle.block_graph.proofs.ExtentsRules.{isr_takes_none, isrs_have_code, names_declared, resources_of_tasks, tasks_have_code}
+use Rattle.block_graph.proofs.ExtentsRules.{isrs_have_code, names_declared, tasks_have_code}
 
 -- ---- the code of an owner among the bodies
 
@@ -120,9 +120,6 @@ module _ (s : System) (code : Code) (linkable : IsLinkable s) (fit : AreFit code
   code_declared : (kind : BodyKind) (name : List ℕ) (found : HasCode kind name bodies) → from_calls (wrong_names s) found.body.statements ≡ []
   code_declared = of_code (λ (body : Body). from_calls (wrong_names s) body.statements ≡ []) (names_declared s code clean)
 
-  code_without_resources : (kind : BodyKind) (name : List ℕ) (found : HasCode kind name bodies) → isr_resources_by found.body.kind found.body.statements ≡ []
-  code_without_resources = of_code (λ (body : Body). isr_resources_by body.kind body.statements ≡ []) (resources_of_tasks s code clean)
-
   owner_of : (kind : BodyKind) (name : List ℕ) → list_any (is_code_of kind name) bodies ≡ true → IsOwner (tables_over s bodies (app_blocks s bodies)) (extent kind name bodies 0).0 (extent kind name bodies 0).1
   owner_of kind name e =
       let found = code_of kind name bodies e in
@@ -140,10 +137,10 @@ module _ (s : System) (code : Code) (linkable : IsLinkable s) (fit : AreFit code
   pub each_isr : All (λ (x : Isr). IsOwner (tables_over s bodies (app_blocks s bodies)) x.first.0 x.count) (isrs_of s bodies)
   each_isr =
       all_at (λ (x : Isr). IsOwner (tables_over s bodies (app_blocks s bodies)) x.first.0 x.count) (isrs_of s bodies)
-      (each_map (λ (x : Isr). IsOwner (tables_over s bodies (app_blocks s bodies)) x.first.0 x.count) (λ (name : List ℕ). isr_with name (extent body_kind.Isr name bodies 0)) s.isrs
+      (each_map (λ (x : Isr). IsOwner (tables_over s bodies (app_blocks s bodies)) x.first.0 x.count) (λ (x : IsrObject). isr_with x (extent body_kind.Isr x.name bodies 0)) s.isrs
       (all_weaker
-      (λ (name : List ℕ). IsOwner (tables_over s bodies (app_blocks s bodies)) (extent body_kind.Isr name bodies 0).0 (extent body_kind.Isr name bodies 0).1)
-      (λ (name : List ℕ). list_any (is_code_of body_kind.Isr name) bodies ≡ true) s.isrs (λ name e. owner_of body_kind.Isr name e) (isrs_have_code s code clean)))
+      (λ (x : IsrObject). IsOwner (tables_over s bodies (app_blocks s bodies)) (extent body_kind.Isr x.name bodies 0).0 (extent body_kind.Isr x.name bodies 0).1)
+      (λ (x : IsrObject). list_any (is_code_of body_kind.Isr x.name) bodies ≡ true) s.isrs (λ x e. owner_of body_kind.Isr x.name e) (isrs_have_code s code clean)))
 
   task_code_of : (name : List ℕ) → list_any (is_code_of body_kind.Task name) bodies ≡ true
       → IsTaskCode (tables_over s bodies (app_blocks s bodies)) (extent body_kind.Task name bodies 0).0 (extent body_kind.Task name bodies 0).1
@@ -168,16 +165,15 @@ module _ (s : System) (code : Code) (linkable : IsLinkable s) (fit : AreFit code
       let isr = code_kind body_kind.Isr name found.body found.is in
       code_keeps s (λ blocks first count. IsIsrCode (tables_over s bodies blocks) first count) body_kind.Isr name bodies found
       (λ pre post n place.
-      body_is_isr_code s bodies pre post found.body n place linkable (code_fit body_kind.Isr name found) (code_declared body_kind.Isr name found) isr
-      (isr_takes_none found.body.kind found.body.statements isr (code_without_resources body_kind.Isr name found)))
+      body_is_isr_code s bodies pre post found.body n place linkable (code_fit body_kind.Isr name found) (code_declared body_kind.Isr name found) isr)
 
   pub isr_code : All (λ (x : Isr). IsIsrCode (tables_over s bodies (app_blocks s bodies)) x.first.0 x.count) (isrs_of s bodies)
   isr_code =
       all_at (λ (x : Isr). IsIsrCode (tables_over s bodies (app_blocks s bodies)) x.first.0 x.count) (isrs_of s bodies)
-      (each_map (λ (x : Isr). IsIsrCode (tables_over s bodies (app_blocks s bodies)) x.first.0 x.count) (λ (name : List ℕ). isr_with name (extent body_kind.Isr name bodies 0)) s.isrs
+      (each_map (λ (x : Isr). IsIsrCode (tables_over s bodies (app_blocks s bodies)) x.first.0 x.count) (λ (x : IsrObject). isr_with x (extent body_kind.Isr x.name bodies 0)) s.isrs
       (all_weaker
-      (λ (name : List ℕ). IsIsrCode (tables_over s bodies (app_blocks s bodies)) (extent body_kind.Isr name bodies 0).0 (extent body_kind.Isr name bodies 0).1)
-      (λ (name : List ℕ). list_any (is_code_of body_kind.Isr name) bodies ≡ true) s.isrs (λ name e. isr_code_of name e) (isrs_have_code s code clean)))
+      (λ (x : IsrObject). IsIsrCode (tables_over s bodies (app_blocks s bodies)) (extent body_kind.Isr x.name bodies 0).0 (extent body_kind.Isr x.name bodies 0).1)
+      (λ (x : IsrObject). list_any (is_code_of body_kind.Isr x.name) bodies ≡ true) s.isrs (λ x e. isr_code_of x.name e) (isrs_have_code s code clean)))
 
 -- ---- what the tick routines keep
 

@@ -2,14 +2,14 @@
 use Rattle.std.proofs.Common.{◌≡◌, ℕ, ◌≤◌, List, [], ◌∷◌, ◌++◌, length, drop, length-drop, Bool, true, false, refl, sym, ap, subst, arith}
 use Rattle.std.specs.{Prelude.{◌||◌, filter, if◌then◌else◌}, List.{AllByRecursion, list_any}}
 use Rattle.std.proofs.lemmas.{Bool.{or_parts, not-false}, List.{length-append, Sums.{sum_by-cons}}}
-use Rattle.osek_values.specs.declared.refusal.CodeRule.TheVariants.{C1, C2, C3, C4, C6, C8, C10}
-use Rattle.oil_system.specs.declared.system.{TaskObject.{TaskObject}, System.{System}}
+use Rattle.osek_values.specs.declared.refusal.CodeRule.TheVariants.{C1, C2, C3, C4, C8, C10}
+use Rattle.oil_system.specs.declared.system.{IsrObject.{IsrObject}, TaskObject.{TaskObject}, System.{System}}
 use Rattle.oil_model.specs.Rules.{repeated}
 use Rattle.oil_model.proofs.Clean.{no_line, left_empty, right_empty, map_empty, mark_empty, none_pass, each_empty, all_weaker, all_both}
-use Rattle.task_code.specs.declared.tree.{BodyKind.{BodyKind, TheVariants.{Task, Isr}}, Body.{Body}, Code.{Code}}
+use Rattle.task_code.specs.declared.tree.{BodyKind.TheVariants.{Task, Isr}, Body.{Body}, Code.{Code}}
 use Rattle.task_code.specs.Statements.{Statements, closed, work_then, if_then, if_else_then, while_then, call_then, closing_line, nodes}
 use Rattle.block_graph.specs.{Blocks.{size, source_size}, Faults.{HasNoFault}}
-use Rattle.block_graph.specs.Rules.{beyond_limit, block_lines, first_only, from_calls, has_owner, has_same_owner, internal_in, internal_resources, is_code_of, is_stray, isr_resources, isr_resources_by, lacks_code, line_of_body, missing_code, of_resource, repeated_code, statement_lines, stray_code, undeclared_in, undeclared_names}
+use Rattle.block_graph.specs.Rules.{beyond_limit, block_lines, first_only, from_calls, has_owner, has_same_owner, internal_in, internal_resources, is_code_of, is_stray, lacks_code, line_of_body, missing_code, repeated_code, statement_lines, stray_code, undeclared_in, undeclared_names}
 use Rattle.block_graph.proofs.OwnersCalls.{wrong_names, no_wrong_name}
 use Rattle.block_graph.proofs.ExtentsLists.{append_none, append_push, none_of}
 
@@ -30,18 +30,18 @@ not_repeated {X} same before (y ∷ front) x more e =
 
 module _ (s : System) (code : Code) (clean : HasNoFault s code) where
   -- each task and each ISR has code
-  has_all_code : (list_any (λ (x : TaskObject). lacks_code Task code.bodies x.name) s.tasks ≡ false) × (list_any (lacks_code Isr code.bodies) s.isrs ≡ false)
+  has_all_code : (list_any (λ (x : TaskObject). lacks_code Task code.bodies x.name) s.tasks ≡ false) × (list_any (λ (x : IsrObject). lacks_code Isr code.bodies x.name) s.isrs ≡ false)
   has_all_code =
       let none : missing_code s code.bodies ≡ [] = no_line (missing_code s code.bodies) (λ l h. clean C1 l h) in
-      or_parts _ _ (mark_empty (list_any (λ (x : TaskObject). lacks_code Task code.bodies x.name) s.tasks || list_any (lacks_code Isr code.bodies) s.isrs) 0 none)
+      or_parts _ _ (mark_empty (list_any (λ (x : TaskObject). lacks_code Task code.bodies x.name) s.tasks || list_any (λ (x : IsrObject). lacks_code Isr code.bodies x.name) s.isrs) 0 none)
 
   pub tasks_have_code : AllByRecursion (λ (x : TaskObject). list_any (is_code_of Task x.name) code.bodies ≡ true) s.tasks
   tasks_have_code =
       all_weaker (λ (x : TaskObject). list_any (is_code_of Task x.name) code.bodies ≡ true) (λ (x : TaskObject). lacks_code Task code.bodies x.name ≡ false) s.tasks (λ x h. not-false _ h) (none_of (λ (x : TaskObject). lacks_code Task code.bodies x.name) s.tasks has_all_code.0)
 
-  pub isrs_have_code : AllByRecursion (λ (name : List ℕ). list_any (is_code_of Isr name) code.bodies ≡ true) s.isrs
+  pub isrs_have_code : AllByRecursion (λ (x : IsrObject). list_any (is_code_of Isr x.name) code.bodies ≡ true) s.isrs
   isrs_have_code =
-      all_weaker (λ (name : List ℕ). list_any (is_code_of Isr name) code.bodies ≡ true) (λ (name : List ℕ). lacks_code Isr code.bodies name ≡ false) s.isrs (λ x h. not-false _ h) (none_of (lacks_code Isr code.bodies) s.isrs has_all_code.1)
+      all_weaker (λ (x : IsrObject). list_any (is_code_of Isr x.name) code.bodies ≡ true) (λ (x : IsrObject). lacks_code Isr code.bodies x.name ≡ false) s.isrs (λ x h. not-false _ h) (none_of (λ (x : IsrObject). lacks_code Isr code.bodies x.name) s.isrs has_all_code.1)
 
   -- each body is of something declared
   pub bodies_have_owners : AllByRecursion (λ (body : Body). has_owner s body.kind body.owner.name ≡ true) code.bodies
@@ -65,16 +65,8 @@ module _ (s : System) (code : Code) (clean : HasNoFault s code) where
       (each_empty (λ (body : Body). from_calls (undeclared_in s) body.statements) code.bodies (no_line (undeclared_names s code.bodies) (λ l h. clean C4 l h)))
       (each_empty (λ (body : Body). from_calls (internal_in s) body.statements) code.bodies (no_line (internal_resources s code.bodies) (λ l h. clean C10 l h))))
 
-  -- an ISR takes no resource
-  pub resources_of_tasks : AllByRecursion (λ (body : Body). isr_resources_by body.kind body.statements ≡ []) code.bodies
-  resources_of_tasks = each_empty (λ (body : Body). isr_resources_by body.kind body.statements) code.bodies (no_line (isr_resources code.bodies) (λ l h. clean C6 l h))
-
   within_limit : drop 1024 (block_lines code.bodies) ≡ []
   within_limit = first_none _ (no_line (beyond_limit code.bodies) (λ l h. clean C8 l h))
-
-pub isr_takes_none : (kind : BodyKind) (statements : Statements) → kind ≡ Isr → isr_resources_by kind statements ≡ [] → from_calls of_resource statements ≡ []
-isr_takes_none Task statements e none = absurd cc
-isr_takes_none Isr statements e none = none
 
 -- ---- how many blocks the bodies have
 

@@ -1,9 +1,9 @@
 -- What the tables of the application keep of those of the system, and how many blocks there are.
 use Rattle.std.proofs.Common.{◌≡◌, ℕ, zero, suc, ◌+◌, ◌*◌, ◌<◌, ◌≤◌, ◌^◌, List, [], ◌∷◌, length, map, Bool, true, false, cond, eqb, leb, refl, sym, ap, ◌∙◌, subst, arith}
-use Rattle.std.proofs.lemmas.{Bool.Decides.{nat_tests}, List.{length-append, length-map, map-id, Sums.{count_by-le-length, sum_by-cons}}}
-use Rattle.std.specs.{Prelude.{◌||◌, ◌&&◌, ◌==◌, nat_le, slice_index_or, All, Option, Some, None, count_by}, List.{enumerate_from, filter, AllByRecursion}}
+use Rattle.std.proofs.lemmas.{Bool.Decides.{nat_tests}, List.{length-append, length-map, Sums.{count_by-le-length, sum_by-cons}}}
+use Rattle.std.specs.{Prelude.{◌||◌, ◌&&◌, ◌==◌, nat_le, slice_index_or, All, Option, Some, None, count_by}, List.{enumerate_from, filter}}
 use Rattle.osek_values.specs.{Names.{AreNames}, declared.numbers.ResNo.{ResNo}}
-use Rattle.oil_system.specs.declared.{objects.{Action.{Action}, Alarm.{Alarm}}, system.{CounterObject.{CounterObject}, TaskObject.{TaskObject}, System.{System}}}
+use Rattle.oil_system.specs.declared.{objects.{Action.{Action}, Alarm.{Alarm}}, system.{CounterObject.{CounterObject}, IsrObject.{IsrObject}, TaskObject.{TaskObject}, System.{System}}}
 use Rattle.oil_system.specs.declared.objects.Action.TheVariants as action
 use Rattle.osek_standard.specs.declared.{objects.{Counter.{Counter}, Isr.{Isr}, Task.{Task}}, block.Block.{Block}}
 use Rattle.osek_standard.specs.Validity.{IsAction, IsAlarmOf, IsInternal, due_of, is_cycle_of, no_counter}
@@ -104,18 +104,14 @@ few_blocks s code linkable clean =
 
 module _ (s : System) (bodies : List Body) where
   pub isr_count : length (isrs_of s bodies) ≡ length s.isrs
-  isr_count = length-map s.isrs (λ (name : List ℕ). isr_with name (extent body_kind.Isr name bodies 0))
-
-every : {X : Type 0} (P : X → Type 0) (xs : List X) → ((x : X) → P x) → AllByRecursion P xs
-every P [] h = tt
-every P (x ∷ xs) h = (h x, every P xs h)
+  isr_count = length-map s.isrs (λ (x : IsrObject). isr_with x (extent body_kind.Isr x.name bodies 0))
 
 module _ (s : System) (bodies : List Body) (linkable : IsLinkable s) where
   pub task_names : AreNames (map (λ (x : Task). x.name) (tasks_of s bodies))
   task_names = subst AreNames (sym (mapped_twice (λ (x : TaskObject). task_with x (extent body_kind.Task x.name bodies 0)) (λ (x : Task). x.name) s.tasks)) linkable.task_names
 
   pub isr_names : AreNames (map (λ (x : Isr). x.name) (isrs_of s bodies))
-  isr_names = subst AreNames (sym (mapped_twice (λ (name : List ℕ). isr_with name (extent body_kind.Isr name bodies 0)) (λ (x : Isr). x.name) s.isrs ∙ map-id s.isrs)) linkable.isr_names
+  isr_names = subst AreNames (sym (mapped_twice (λ (x : IsrObject). isr_with x (extent body_kind.Isr x.name bodies 0)) (λ (x : Isr). x.name) s.isrs)) linkable.isr_names
 
   pub counter_names : AreNames (map (λ (x : Counter). x.name) (counters_of s bodies))
   counter_names = subst AreNames (sym (counter_name s s.counters 0 (source_size bodies))) linkable.counter_names
@@ -127,12 +123,12 @@ module _ (s : System) (bodies : List Body) (linkable : IsLinkable s) where
       (each_map P (λ (x : TaskObject). task_with x (extent body_kind.Task x.name bodies 0)) s.tasks
       (each_of (λ (x : TaskObject). P (task_with x (extent body_kind.Task x.name bodies 0))) s.tasks h))
 
-  -- what is so of each ISR, whatever the system says of it
-  pub each_isr_is : (P : Isr → Type 0) → ((name : List ℕ) (e : ℕ × ℕ) → P (isr_with name e)) → All P (isrs_of s bodies)
-  each_isr_is P h =
+  -- what is so of each ISR of the system
+  pub each_isr_keeps : (P : Isr → Type 0) → All (λ (x : IsrObject). P (isr_with x (extent body_kind.Isr x.name bodies 0))) s.isrs → All P (isrs_of s bodies)
+  each_isr_keeps P h =
       all_at P (isrs_of s bodies)
-      (each_map P (λ (name : List ℕ). isr_with name (extent body_kind.Isr name bodies 0)) s.isrs
-      (every _ s.isrs (λ (name : List ℕ). h name (extent body_kind.Isr name bodies 0))))
+      (each_map P (λ (x : IsrObject). isr_with x (extent body_kind.Isr x.name bodies 0)) s.isrs
+      (each_of (λ (x : IsrObject). P (isr_with x (extent body_kind.Isr x.name bodies 0))) s.isrs h))
 
   pub task_starts : All (λ (x : Task). x.autostart < 2 ^ length s.modes) (tasks_of s bodies)
   task_starts = each_task_keeps (λ (x : Task). x.autostart < 2 ^ length s.modes) linkable.task_starts

@@ -1,5 +1,5 @@
 -- Whether two lists of openers are the same, step by step.
-use Rattle.std.proofs.Common.{◌≡◌, ◌≢◌, ℕ, ◌+◌, ◌<◌, List, [], ◌∷◌, length, Bool, true, false, ◌&&◌, refl, arith}
+use Rattle.std.proofs.Common.{◌≡◌, ◌≢◌, List, [], ◌∷◌, length, Bool, true, false, ◌&&◌, refl, arith}
 use Rattle.block_graph.specs.{declared.locks.Opener.{Opener, TheVariants.{SuspendAll, SuspendOs, DisableAll}}, Locks.{is_opener, are_same}}
 
 and_false : (a b : Bool) → b ≡ false → (a && b) ≡ false

@@ -9,7 +9,7 @@ use Rattle.task_code.specs.{declared.{call.{Reference.{Reference}, Call.{Call}},
 use Rattle.task_code.specs.declared.call.Call.TheVariants as call
 use Rattle.task_code.specs.declared.tree.BodyKind.TheVariants as body_kind
 use Rattle.block_graph.specs.{Apps.{extent, tables_over, task_with, tasks_of}, Blocks.{event_bits, kind_of, mask_bits}, Names.{alarm_of, event_of, resource_of, task_of}}
-use Rattle.block_graph.specs.Rules.{from_calls, internal_at, internal_in, internal_resource, no_alarm, no_event, no_resource, no_task, of_resource, undeclared, undeclared_in}
+use Rattle.block_graph.specs.Rules.{from_calls, internal_at, internal_in, internal_resource, no_alarm, no_event, no_resource, no_task, undeclared, undeclared_in}
 use Rattle.task_code.specs.Statements.{Statements, closed, work_then, if_then, if_else_then, while_then, call_then}
 use Rattle.oil_model.proofs.Clean.{mark_empty}
 use Rattle.block_graph.specs.Blocks as graph
@@ -123,26 +123,8 @@ module _ (s : System) where
   pub call_in_task : (c : Call) → IsTrue (task_may false (kind_of s c))
   call_in_task c = refl
 
-  pub call_in_isr : (line : ℕ) (c : Call) → of_resource line c ≡ [] → IsTrue (isr_may false (kind_of s c))
-  call_in_isr line (call.ActivateTask task) e = refl
-  call_in_isr line call.TerminateTask e = refl
-  call_in_isr line (call.ChainTask task) e = refl
-  call_in_isr line call.Schedule e = refl
-  call_in_isr line (call.GetResource resource) e = absurd cc
-  call_in_isr line (call.ReleaseResource resource) e = absurd cc
-  call_in_isr line (call.SetEvent task mask) e = refl
-  call_in_isr line (call.ClearEvent mask) e = refl
-  call_in_isr line (call.GetEvent task) e = refl
-  call_in_isr line (call.WaitEvent mask) e = refl
-  call_in_isr line (call.SetRelAlarm alarm increment cycle) e = refl
-  call_in_isr line (call.SetAbsAlarm alarm start cycle) e = refl
-  call_in_isr line (call.CancelAlarm alarm) e = refl
-  call_in_isr line (call.GetAlarm alarm) e = refl
-  call_in_isr line call.GetTaskId e = refl
-  call_in_isr line (call.GetTaskState task) e = refl
-  call_in_isr line call.GetActiveApplicationMode e = refl
-  call_in_isr line (call.ShutdownOs _) e = refl
-  call_in_isr line (call.LockCall lock) e = refl
+  pub call_in_isr : (c : Call) → IsTrue (isr_may false (kind_of s c))
+  call_in_isr c = refl
 
   pub call_goes_on : (b next : ℕ) (c : Call) → IsTrue (is_own_next b (kind_of s c) next)
   call_goes_on b next c = refl

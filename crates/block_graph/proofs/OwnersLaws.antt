@@ -9,7 +9,7 @@ use Rattle.task_code.specs.declared.tree.{Body.{Body}, BodyKind.{BodyKind}}
 use Rattle.task_code.specs.declared.tree.BodyKind.TheVariants as body_kind
 use Rattle.task_code.specs.{Fit.{IsFit}, Statements.{closing_line, nodes}}
 use Rattle.block_graph.specs.{Apps.{tables_over}, Blocks.{block, blocks_of, body_blocks, end_kind, routine, routine_size, size, source_blocks, source_size}}
-use Rattle.block_graph.specs.Rules.{from_calls, of_resource}
+use Rattle.block_graph.specs.Rules.{from_calls}
 use Rattle.block_graph.proofs.OwnersCalls.{wrong_names}
 use Rattle.block_graph.proofs.OwnersEach.{AllFrom, all_from_append, all_from_at, all_from_weaker}
 use Rattle.block_graph.proofs.OwnersStatements.{Good, InIsr, InTask, IsGood, Lie, blocks_are_good, blocks_in_isr, blocks_in_task, blocks_length}
@@ -97,8 +97,8 @@ task_each s body n task =
     (blocks_in_task s body.statements n end []))
     (subst (λ (k : BodyKind). IsTrue (task_may (eqb (end + 1) (n + size body)) (end_kind k))) (sym task) last)
 
-isr_each : (s : System) (body : Body) (n : ℕ) → body.kind ≡ body_kind.Isr → from_calls of_resource body.statements ≡ [] → AllFrom (IsrAt (n + size body)) n (body_blocks s body n)
-isr_each s body n isr no_resources =
+isr_each : (s : System) (body : Body) (n : ℕ) → body.kind ≡ body_kind.Isr → AllFrom (IsrAt (n + size body)) n (body_blocks s body n)
+isr_each s body n isr =
     let end = n + nodes body.statements in
     let long : length (blocks_of s body.statements n end []) ≡ nodes body.statements = blocks_length s body.statements n end [] in
     let last : IsTrue (eqb (end + 1) (n + size body)) = eq-eqb (end + 1) (n + size body) (omega arith) in
@@ -107,7 +107,7 @@ isr_each s body n isr no_resources =
     (λ b x low high h.
     let before : eqb (b + 1) (n + size body) ≡ false = ne_eqb (b + 1) (n + size body) (λ e. omega (arith, e, high, long)) in
     subst (λ (t : Bool). IsTrue (isr_may t x.kind)) (sym before) h)
-    (blocks_in_isr s body.statements n end [] no_resources))
+    (blocks_in_isr s body.statements n end []))
     (subst (λ (k : BodyKind). IsTrue (isr_may (eqb (end + 1) (n + size body)) (end_kind k))) (sym isr) last)
 
 pub body_is_task_code : (s : System) (bodies : List Body) (pre post : List Block) (body : Body) (n : ℕ) → length pre ≡ n
@@ -118,10 +118,10 @@ body_is_task_code s bodies pre post body n place linkable fit declared task = re
 }
 
 pub body_is_isr_code : (s : System) (bodies : List Body) (pre post : List Block) (body : Body) (n : ℕ) → length pre ≡ n
-    → IsLinkable s → IsFit body → from_calls (wrong_names s) body.statements ≡ [] → body.kind ≡ body_kind.Isr → from_calls of_resource body.statements ≡ []
+    → IsLinkable s → IsFit body → from_calls (wrong_names s) body.statements ≡ [] → body.kind ≡ body_kind.Isr
     → IsIsrCode (tables_over s bodies (pre ++ (body_blocks s body n ++ post))) n (size body)
-body_is_isr_code s bodies pre post body n place linkable fit declared isr no_resources = record {
-  each = λ b m. all_from_at (IsrAt (n + size body)) n pre (body_blocks s body n) post place (isr_each s body n isr no_resources) b no_block m.0 (omega (arith, m.1, body_size s body n));
+body_is_isr_code s bodies pre post body n place linkable fit declared isr = record {
+  each = λ b m. all_from_at (IsrAt (n + size body)) n pre (body_blocks s body n) post place (isr_each s body n isr) b no_block m.0 (omega (arith, m.1, body_size s body n));
 }
 
 -- a tick routine at its place

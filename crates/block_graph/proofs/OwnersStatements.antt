@@ -7,7 +7,7 @@ use Rattle.task_code.specs.{declared.tree.{Body.{Body}, Condition.TheVariants.{C
 use Rattle.task_code.specs.Statements.{Statements, closed, work_then, if_then, if_else_then, while_then, call_then, nodes}
 use Rattle.task_code.proofs.FitLaws.{count_range}
 use Rattle.block_graph.specs.{declared.locks.Opener.{Opener}, Apps.{tables_over}, Blocks.{blocks_of, entry}, Locks.{open_behind, open_behind_call}}
-use Rattle.block_graph.specs.Rules.{from_calls, of_resource}
+use Rattle.block_graph.specs.Rules.{from_calls}
 use Rattle.block_graph.proofs.{OwnersCalls.{both_empty, wrong_names, call_names_entries, call_in_task, call_in_isr, call_goes_on, call_has_one_way}, OwnersEach.{AllFrom, all_from_append}}
 
 -- each statement is a block
@@ -167,41 +167,34 @@ module _ (s : System) where
       )
   blocks_in_task (call_then line call next) n after locks = (call_in_task s call, blocks_in_task next (n + 1) after (open_behind_call locks call))
 
-  pub blocks_in_isr : (xs : Statements) (n after : ℕ) (locks : List Opener) → from_calls of_resource xs ≡ [] → AllFrom InIsr n (blocks_of s xs n after locks)
-  blocks_in_isr (closed line) n after locks none = tt
-  blocks_in_isr (work_then line work next) n after locks none = (refl, blocks_in_isr next (n + 1) after locks none)
-  blocks_in_isr (if_then line branch next) n after locks none =
-      let start = n + 1 in let behind = start + nodes branch in let out = entry next behind after in
-      let parts = both_empty (from_calls of_resource branch) (from_calls of_resource next) none in (
+  pub blocks_in_isr : (xs : Statements) (n after : ℕ) (locks : List Opener) → AllFrom InIsr n (blocks_of s xs n after locks)
+  blocks_in_isr (closed line) n after locks = tt
+  blocks_in_isr (work_then line work next) n after locks = (refl, blocks_in_isr next (n + 1) after locks)
+  blocks_in_isr (if_then line branch next) n after locks =
+      let start = n + 1 in let behind = start + nodes branch in let out = entry next behind after in (
         refl,
         all_from_append InIsr start (nodes branch) (blocks_of s branch start out locks) (blocks_of s next behind after locks) (blocks_length s branch start out locks)
-            (blocks_in_isr branch start out locks parts.0) (blocks_in_isr next behind after locks parts.1),
+            (blocks_in_isr branch start out locks) (blocks_in_isr next behind after locks),
       )
-  blocks_in_isr (if_else_then line branch otherwise next) n after locks none =
+  blocks_in_isr (if_else_then line branch otherwise next) n after locks =
       let start = n + 1 in let second = start + nodes branch in let behind = second + nodes otherwise in let out = entry next behind after in
-      let last = blocks_of s next behind after (open_behind branch locks) in
-      let parts = both_empty (from_calls of_resource branch) (from_calls of_resource otherwise ++ from_calls of_resource next) none in
-      let later = both_empty (from_calls of_resource otherwise) (from_calls of_resource next) parts.1 in (
+      let last = blocks_of s next behind after (open_behind branch locks) in (
         refl,
         all_from_append InIsr start (nodes branch) (blocks_of s branch start out locks) (blocks_of s otherwise second out locks ++ last) (blocks_length s branch start out locks)
-            (blocks_in_isr branch start out locks parts.0)
+            (blocks_in_isr branch start out locks)
             (all_from_append InIsr second (nodes otherwise) (blocks_of s otherwise second out locks) last (blocks_length s otherwise second out locks)
-            (blocks_in_isr otherwise second out locks later.0) (blocks_in_isr next behind after (open_behind branch locks) later.1)),
+            (blocks_in_isr otherwise second out locks) (blocks_in_isr next behind after (open_behind branch locks))),
       )
-  blocks_in_isr (while_then line Choice body next) n after locks none =
-      let start = n + 1 in let behind = start + nodes body in
-      let parts = both_empty (from_calls of_resource body) (from_calls of_resource next) none in (
+  blocks_in_isr (while_then line Choice body next) n after locks =
+      let start = n + 1 in let behind = start + nodes body in (
         refl,
         all_from_append InIsr start (nodes body) (blocks_of s body start n locks) (blocks_of s next behind after locks) (blocks_length s body start n locks)
-            (blocks_in_isr body start n locks parts.0) (blocks_in_isr next behind after locks parts.1),
+            (blocks_in_isr body start n locks) (blocks_in_isr next behind after locks),
       )
-  blocks_in_isr (while_then line Always body next) n after locks none =
-      let start = n + 1 in let behind = start + nodes body in
-      let parts = both_empty (from_calls of_resource body) (from_calls of_resource next) none in (
+  blocks_in_isr (while_then line Always body next) n after locks =
+      let start = n + 1 in let behind = start + nodes body in (
         refl,
         all_from_append InIsr start (nodes body) (blocks_of s body start n locks) (blocks_of s next behind after locks) (blocks_length s body start n locks)
-            (blocks_in_isr body start n locks parts.0) (blocks_in_isr next behind after locks parts.1),
+            (blocks_in_isr body start n locks) (blocks_in_isr next behind after locks),
       )
-  blocks_in_isr (call_then line call next) n after locks none =
-      let parts = both_empty (of_resource line call) (from_calls of_resource next) none in
-      (call_in_isr s line call parts.0, blocks_in_isr next (n + 1) after (open_behind_call locks call) parts.1)
+  blocks_in_isr (call_then line call next) n after locks = (call_in_isr s call, blocks_in_isr next (n + 1) after (open_behind_call locks call))

@@ -1,9 +1,9 @@
 -- The application of a linkable system and its code without a fault is valid.
-use Rattle.std.proofs.Common.{arith, ◌≡◌, ◌<◌, ◌≤◌, refl}
+use Rattle.std.proofs.Common.{arith, ◌≡◌, ◌<◌, ◌≤◌}
 use Rattle.std.specs.Prelude.{slice_index_or}
 use Rattle.osek_values.specs.declared.limits.TheConstants.{MAX_ACTIVATIONS}
-use Rattle.oil_system.specs.declared.system.System.{System}
-use Rattle.osek_standard.specs.Validity.{IsValid, no_counter, IsClosed, IsInternal, greatest_interrupt_ceiling}
+use Rattle.oil_system.specs.{Objects.{greatest_interrupt_ceiling}, declared.system.System.{System}}
+use Rattle.osek_standard.specs.Validity.{IsValid, no_counter, IsInternal}
 use Rattle.osek_standard.specs.declared.objects.{Task.{Task}, Isr.{Isr}}
 use Rattle.oil_model.specs.Linkable.{IsLinkable}
 use Rattle.task_code.specs.{declared.tree.Code.{Code}, Fit.{AreFit}}
@@ -11,15 +11,6 @@ use Rattle.block_graph.specs.{Apps.{tables_over}, Blocks.{app_blocks, source_siz
 use Rattle.block_graph.proofs.{ExtentsApart.{apart as owners_apart}, ExtentsOwned.{owned as each_owned}, OwnersCalls.{task_count}}
 use Rattle.block_graph.proofs.ExtentsPlaces as places
 use Rattle.block_graph.proofs.ExtentsTables as tables
-
--- no text brings more yet
-closed : (s : System) (code : Code) → IsLinkable s → IsClosed (tables_over s code.bodies (app_blocks s code.bodies))
-unfolding IsClosed
-closed s code linkable =
-    let bodies = code.bodies in (
-      tables.each_isr_is s bodies linkable (λ (x : Isr). x.priority ≡ 0) (λ name e. refl),
-      linkable.no_interrupt_ceilings,
-    )
 
 pub valid : (s : System) (code : Code) → IsLinkable s → AreFit code → HasNoFault s code
     → IsValid (tables_over s code.bodies (app_blocks s code.bodies))
@@ -49,7 +40,7 @@ valid s code linkable fit clean =
       internals = tables.each_task_keeps s bodies linkable (λ (x : Task). IsInternal (tables_over s bodies (app_blocks s bodies)) x.internal) (λ k d lt. tables.internal_kept s bodies (app_blocks s bodies) (slice_index_or s.tasks k d).internal (linkable.internals k d lt));
       each_isr = places.each_isr s code linkable fit clean;
       isr_code = places.isr_code s code linkable fit clean;
-      isr_priorities = tables.each_isr_is s bodies linkable (λ (x : Isr). x.priority < greatest_interrupt_ceiling) (λ name e. omega arith);
+      isr_priorities = tables.each_isr_keeps s bodies linkable (λ (x : Isr). x.priority < greatest_interrupt_ceiling) linkable.isr_priorities;
       each_counter = λ k d lt. (tables.some_maximum s bodies linkable k d lt, places.counter_is_owner s bodies k d lt);
       min_cycles = tables.min_cycles s bodies linkable;
       tick_code = λ c lt. places.tick_code s bodies c no_counter lt;
@@ -57,8 +48,7 @@ valid s code linkable fit clean =
       alarm_starts = linkable.alarm_starts;
       no_starts = linkable.no_starts;
       ceilings = linkable.ceilings;
-      interrupt_ceilings = λ k d lt. omega (arith, linkable.no_interrupt_ceilings k d lt);
+      interrupt_ceilings = linkable.interrupt_ceilings;
       apart = owners_apart s code linkable clean;
       owned = each_owned s code clean;
-      closed = closed s code linkable;
     }

@@ -1,7 +1,7 @@
 -- The application of a system and its task code.
 use Rattle.std.specs.Prelude.{◌≡◌, ℕ, ◌+◌, if◌then◌else◌, List, [], ◌∷◌, map}
 use Rattle.osek_values.specs.Numbers.{block_no}
-use Rattle.oil_system.specs.declared.system.{CounterObject.{CounterObject}, TaskObject.{TaskObject}, System.{System}}
+use Rattle.oil_system.specs.declared.system.{CounterObject.{CounterObject}, IsrObject.{IsrObject}, TaskObject.{TaskObject}, System.{System}}
 use Rattle.osek_standard.specs.{declared.{app.App.{App}, objects.{Counter.{Counter}, Isr.{Isr}, Task.{Task}}, block.Block.{Block}}, Tables.{Tables, tabled}, Validity.{due_of}}
 use Rattle.task_code.specs.declared.tree.{BodyKind.{BodyKind}, Body.{Body}, Code.{Code}}
 use Rattle.task_code.specs.declared.tree.BodyKind.TheVariants as body_kind
@@ -26,8 +26,9 @@ task_with x e = record {
   internal = x.internal;
 }
 
-abbrev pub isr_with : List ℕ → ℕ × ℕ → Isr
-isr_with name e = record { name = name; first = block_no e.0; count = e.1; priority = 0 }
+-- The resources that it names end here: its code takes no others.
+abbrev pub isr_with : IsrObject → ℕ × ℕ → Isr
+isr_with x e = record { name = x.name; first = block_no e.0; count = e.1; priority = x.priority }
 
 -- TICKSPERBASE ends here
 abbrev pub counter_with : CounterObject → ℕ × ℕ → Counter
@@ -38,7 +39,7 @@ module _ (s : System) where
   tasks_of bodies = map (λ (x : TaskObject). task_with x (extent body_kind.Task x.name bodies 0)) s.tasks
 
   abbrev pub isrs_of : List Body → List Isr
-  isrs_of bodies = map (λ (name : List ℕ). isr_with name (extent body_kind.Isr name bodies 0)) s.isrs
+  isrs_of bodies = map (λ (x : IsrObject). isr_with x (extent body_kind.Isr x.name bodies 0)) s.isrs
 
   -- the counters from number c on, whose tick routines begin at block n
   abbrev pub counters_from : List CounterObject → (c n : ℕ) → List Counter

@@ -1,8 +1,8 @@
 -- The rules on a system and its task code (this project's profile): on which lines each is violated.
-use Rattle.std.specs.Prelude.{ℕ, Bool, true, false, not, ◌||◌, ◌&&◌, if◌then◌else◌, is_some, List, [], ◌∷◌, ◌++◌, Option, Some, None, filter, map, drop}
+use Rattle.std.specs.Prelude.{ℕ, Bool, true, false, not, ◌||◌, ◌&&◌, if◌then◌else◌, is_some, List, [], ◌∷◌, ◌++◌, Option, Some, None, filter, map, drop, slice_index_or}
 use Rattle.std.specs.{List.{list_any, flat_map}, Str.{bytes_eq}}
 use Rattle.osek_values.specs.declared.{limits.TheConstants.{MAX_SOURCE_BLOCKS}, refusal.CodeRule.{CodeRule, TheVariants.{C1, C2, C3, C4, C6, C7, C8, C9, C10}}}
-use Rattle.oil_system.specs.declared.system.{TaskObject.{TaskObject}, System.{System}}
+use Rattle.oil_system.specs.declared.system.{TaskObject.{TaskObject}, IsrObject.{IsrObject}, System.{System}}
 use Rattle.osek_standard.specs.Validity.{is_internal}
 use Rattle.oil_model.specs.Rules.{repeated}
 use Rattle.task_code.specs.declared.call.{Reference.{Reference}, Call.{Call}}
@@ -29,7 +29,7 @@ lacks_code kind bodies name = not (list_any (is_code_of kind name) bodies)
 
 abbrev pub missing_code : System → List Body → List ℕ
 missing_code s bodies =
-    if list_any (λ (x : TaskObject). lacks_code Task bodies x.name) s.tasks || list_any (lacks_code Isr bodies) s.isrs then 0 ∷ [] else []
+    if list_any (λ (x : TaskObject). lacks_code Task bodies x.name) s.tasks || list_any (λ (x : IsrObject). lacks_code Isr bodies x.name) s.isrs then 0 ∷ [] else []
 
 -- C2: code for nothing declared, or for a category 1 ISR
 abbrev pub has_owner : System → BodyKind → List ℕ → Bool
@@ -100,21 +100,35 @@ module _ (s : System) where
   abbrev pub undeclared_names : List Body → List ℕ
   undeclared_names bodies = flat_map (λ (body : Body). from_calls undeclared_in body.statements) bodies
 
--- C6: GetResource or ReleaseResource in an ISR
-abbrev pub takes_or_gives : Call → Bool
-takes_or_gives (call.GetResource resource) = true
-takes_or_gives (call.ReleaseResource resource) = true
-takes_or_gives _ = false
+-- C6: GetResource or ReleaseResource in an ISR of a resource that the ISR doesn't name
 
-abbrev pub of_resource : ℕ → Call → List ℕ
-of_resource line call = if takes_or_gives call then line ∷ [] else []
+-- past the end of the table stands an ISR that names nothing
+abbrev pub no_isr_object : IsrObject
+no_isr_object = record { name = []; priority = 0; resources = [] }
 
-abbrev pub isr_resources_by : BodyKind → Statements → List ℕ
-isr_resources_by Task statements = []
-isr_resources_by Isr statements = from_calls of_resource statements
+abbrev pub is_unnamed : List (List ℕ) → Call → Bool
+is_unnamed named (call.GetResource resource) = not (list_any (bytes_eq resource.name) named)
+is_unnamed named (call.ReleaseResource resource) = not (list_any (bytes_eq resource.name) named)
+is_unnamed named _ = false
 
-abbrev pub isr_resources : List Body → List ℕ
-isr_resources bodies = flat_map (λ (body : Body). isr_resources_by body.kind body.statements) bodies
+abbrev pub unnamed_in : List (List ℕ) → ℕ → Call → List ℕ
+unnamed_in named line call = if is_unnamed named call then line ∷ [] else []
+
+module _ (s : System) where
+  -- the names of the resources that the ISR of a number names
+  abbrev pub resources_of_isr : ℕ → List (List ℕ)
+  resources_of_isr number = (slice_index_or s.isrs number no_isr_object).resources
+
+  abbrev pub unnamed_resources : Option ℕ → Statements → List ℕ
+  unnamed_resources None statements = []
+  unnamed_resources (Some number) statements = from_calls (unnamed_in (resources_of_isr number)) statements
+
+  abbrev pub isr_resources_by : BodyKind → List ℕ → Statements → List ℕ
+  isr_resources_by Task name statements = []
+  isr_resources_by Isr name statements = unnamed_resources (isr_of s name) statements
+
+  abbrev pub isr_resources : List Body → List ℕ
+  isr_resources bodies = flat_map (λ (body : Body). isr_resources_by body.kind body.owner.name body.statements) bodies
 
 -- C7: interrupt locks don't pair
 abbrev pub unpaired_locks : List Body → List ℕ
@@ -163,7 +177,7 @@ lines C1 s code = missing_code s code.bodies
 lines C2 s code = stray_code s code.bodies
 lines C3 s code = repeated_code code.bodies
 lines C4 s code = undeclared_names s code.bodies
-lines C6 s code = isr_resources code.bodies
+lines C6 s code = isr_resources s code.bodies
 lines C7 s code = unpaired_locks code.bodies
 lines C8 s code = beyond_limit code.bodies
 lines C9 s code = []

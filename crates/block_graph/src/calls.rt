@@ -1,6 +1,6 @@
-//! The rules on calls: that the names in them are declared, that no ISR takes or gives back a resource, and no call an
-//! INTERNAL one.
-ghost use Rattle.std.specs.{Prelude.{◌≡◌, ℕ}, List.{flat_map}};
+//! The rules on calls: that the names in them are declared, that an ISR takes and gives back no resource but those that it
+//! names, and no call an INTERNAL one.
+ghost use Rattle.std.specs.{Prelude.{◌≡◌, ℕ}, List.{flat_map, list_any}, Str.{bytes_eq}};
 ghost use Rattle.osek_standard.specs.Validity.{is_internal};
 ghost use Rattle.oil_model.specs.Lines.{sooner, least};
 ghost use Rattle.task_code.specs.{Statements.{Statements}, StatementLists.{statement_before}};
@@ -9,6 +9,7 @@ ghost use Rattle.block_graph.specs.CallRules.{lines_of};
 
 use crate::names::Declared;
 use oil_model::{line_if, sooner};
+use osek_values::Name;
 use task_code::{Body, BodyKind, Call, Reference, Statement, StatementList};
 
 /// What is asked of each call.
@@ -16,8 +17,8 @@ use task_code::{Body, BodyKind, Call, Reference, Statement, StatementList};
 pub enum CallRule {
     /// That the names in it are declared.
     Declared,
-    /// That it neither takes nor gives back a resource.
-    Resourceless,
+    /// That the ISR of this number names the resource that it takes or gives back.
+    NamedBy(usize),
     /// That it neither takes nor gives back an INTERNAL resource.
     Takable,
 }
@@ -97,12 +98,36 @@ fn undeclared_in(system: &Declared, call: &Call) -> Option<u32>
     }
 }
 
-fn takes_or_gives(call: &Call) -> bool
-    ensures { result ≡ rules_of.takes_or_gives call.now }
+fn has_name(names: &[Name], name: &Name) -> bool
+    ensures { result ≡ list_any (bytes_eq name.now) names.now }
+{
+    for one in names {
+        if name.as_bytes() == one.as_bytes() {
+            return true;
+        }
+    }
+    false
+}
+
+/// Whether the ISR of a number names a resource.
+fn names(system: &Declared, isr: usize, resource: &Reference) -> bool
+    ensures { result ≡ list_any (bytes_eq resource.now.name) (rules_of.resources_of_isr system.now isr) }
+{
+    let isrs = system.system().isrs.as_slice();
+    if isr < isrs.len() {
+        has_name(isrs[isr].resources.as_slice(), &resource.name)
+    } else {
+        false
+    }
+}
+
+/// Whether a call takes or gives back a resource that the ISR of a number doesn't name.
+fn is_unnamed(system: &Declared, isr: usize, call: &Call) -> bool
+    ensures { result ≡ rules_of.is_unnamed (rules_of.resources_of_isr system.now isr) call.now }
 {
     match call {
-        Call::GetResource(_) => true,
-        Call::ReleaseResource(_) => true,
+        Call::GetResource(resource) => !names(system, isr, resource),
+        Call::ReleaseResource(resource) => !names(system, isr, resource),
         _ => false,
     }
 }
@@ -149,7 +174,7 @@ fn least_of_call(rule: CallRule, system: &Declared, line: u32, call: &Call) -> O
 {
     match rule {
         CallRule::Declared => undeclared_in(system, call),
-        CallRule::Resourceless => line_if(takes_or_gives(call), line),
+        CallRule::NamedBy(isr) => line_if(is_unnamed(system, isr, call), line),
         CallRule::Takable => internal_in(system, call),
     }
 }
@@ -211,18 +236,35 @@ pub fn undeclared_name(system: &Declared, bodies: &[Body]) -> Option<u32>
     best
 }
 
-fn isr_resource_of(system: &Declared, body: &Body) -> Option<u32>
-    ensures { result ≡ least (rules_of.isr_resources_by body.now.kind body.now.statements) }
+fn unnamed_resource(
+    system: &Declared,
+    isr: Option<usize>,
+    statements: &StatementList,
+) -> Option<u32>
+    ensures { result ≡ least (rules_of.unnamed_resources system.now isr statements.now) }
 {
-    match body.kind {
-        BodyKind::Task => None,
-        BodyKind::Isr => least_of_list(CallRule::Resourceless, system, &body.statements),
+    match isr {
+        None => None,
+        Some(number) => least_of_list(CallRule::NamedBy(number), system, statements),
     }
 }
 
-/// The least line of a GetResource or ReleaseResource in an ISR.
+fn isr_resource_of(system: &Declared, body: &Body) -> Option<u32>
+    ensures { result ≡ least (rules_of.isr_resources_by system.now body.now.kind body.now.owner.name body.now.statements) }
+{
+    match body.kind {
+        BodyKind::Task => None,
+        BodyKind::Isr => unnamed_resource(
+            system,
+            system.isr_of(&body.owner.name),
+            &body.statements,
+        ),
+    }
+}
+
+/// The least line of a GetResource or ReleaseResource in an ISR of a resource that the ISR doesn't name.
 pub fn isr_resource(system: &Declared, bodies: &[Body]) -> Option<u32>
-    ensures { result ≡ least (rules_of.isr_resources bodies.now) }
+    ensures { result ≡ least (rules_of.isr_resources system.now bodies.now) }
 {
     let mut best = None;
     for body in bodies {

@@ -4,7 +4,7 @@ ghost use Rattle.oil_model.specs.Linkable.{IsLinkable};
 ghost use Rattle.block_graph.specs.Names.{plain, task_of as the_task_of, isr_of as the_isr_of, alarm_of as the_alarm_of, resource_of as the_resource_of, event_of as the_event_of};
 
 use indexmap::IndexSet;
-use oil_system::{EventObject, System, TaskObject};
+use oil_system::{EventObject, IsrObject, System, TaskObject};
 use osek_standard::{Alarm, Resource};
 use osek_values::{Memory, Name};
 use std::alloc::Global;
@@ -28,11 +28,11 @@ impl Named for TaskObject {
     }
 }
 
-impl Named for Name {
-    ghost name = { λ isr. isr };
+impl Named for IsrObject {
+    ghost name = { λ isr. isr.name };
 
     fn name(&self) -> &[u8] {
-        self.as_bytes()
+        self.name.as_bytes()
     }
 }
 

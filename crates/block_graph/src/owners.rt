@@ -1,13 +1,13 @@
 //! The rules on whose code there is: that each task and ISR has some, and none has it twice.
 ghost use Rattle.std.specs.{Prelude.{◌≡◌, ◌∷◌, [], if◌then◌else◌}, List.{list_any}};
-ghost use Rattle.oil_system.specs.declared.system.TaskObject.{TaskObject};
+ghost use Rattle.oil_system.specs.declared.system.{IsrObject.{IsrObject}, TaskObject.{TaskObject}};
 ghost use Rattle.oil_model.specs.Lines.{sooner, least};
 ghost use Rattle.task_code.specs.declared.tree.BodyKind.TheVariants.{Task as of_task, Isr as of_isr};
 ghost use Rattle.block_graph.specs.Rules as rules_of;
 
 use crate::names::Declared;
 use oil_model::{line_if, sooner};
-use oil_system::TaskObject;
+use oil_system::{IsrObject, TaskObject};
 use osek_values::Name;
 use task_code::{Body, BodyKind};
 
@@ -55,11 +55,11 @@ fn has_bare_task(tasks: &[TaskObject], bodies: &[Body]) -> bool
     false
 }
 
-fn has_bare_isr(isrs: &[Name], bodies: &[Body]) -> bool
-    ensures { result ≡ list_any (rules_of.lacks_code of_isr bodies.now) isrs.now }
+fn has_bare_isr(isrs: &[IsrObject], bodies: &[Body]) -> bool
+    ensures { result ≡ list_any (λ (isr : IsrObject). rules_of.lacks_code of_isr bodies.now isr.name) isrs.now }
 {
     for isr in isrs {
-        if lacks_code(BodyKind::Isr, bodies, isr) {
+        if lacks_code(BodyKind::Isr, bodies, &isr.name) {
             return true;
         }
     }

@@ -7,7 +7,7 @@ ghost use Rattle.block_graph.specs.{Apps.{extent as the_extent, task_with, isr_w
 use crate::layout::{block_no, size};
 use crate::owners::is_code_of;
 use crate::ticks::routine_size;
-use oil_system::{CounterObject, System, TaskObject};
+use oil_system::{CounterObject, IsrObject, System, TaskObject};
 use osek_standard::{Counter, Isr, Task};
 use osek_values::{Memory, Name, Seq, copied};
 use std::alloc::Global;
@@ -70,17 +70,17 @@ pub fn tasks(alloc: Global, system: &System, bodies: &[Body]) -> Result<Seq<Task
     Ok(Seq::of(found))
 }
 
-fn isr(alloc: Global, declared: &Name, bodies: &[Body]) -> Result<Isr, Memory>
+fn isr(alloc: Global, declared: &IsrObject, bodies: &[Body]) -> Result<Isr, Memory>
     requires { source_size bodies.now ≤ 1024 }
-    ensures { IfOk result (λ x. x ≡ isr_with declared.now (the_extent body_kind.Isr declared.now bodies.now 0)) }
+    ensures { IfOk result (λ x. x ≡ isr_with declared.now (the_extent body_kind.Isr declared.now.name bodies.now 0)) }
 {
-    let extent = extent(BodyKind::Isr, declared, bodies);
-    let name = copied(alloc, declared)?;
+    let extent = extent(BodyKind::Isr, &declared.name, bodies);
+    let name = copied(alloc, &declared.name)?;
     Ok(Isr {
         name,
         first: block_no(extent.0),
         count: narrow(extent.1),
-        priority: 0,
+        priority: declared.priority,
     })
 }
 

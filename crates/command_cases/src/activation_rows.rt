@@ -307,7 +307,7 @@ edge b0 b3/T1
 edge b3/T1 b4/T1
 edge b4/T1 b5/T1
 edge b5/T1 b0
-points 14 height 15 values 24 edges 4
+points 14 height 19 values 28 edges 4
 ",
                 "",
             ),

@@ -5,7 +5,7 @@ use crate::task_rows::ONE_TASK_IMAGE;
 
 /// The table of two tasks, of which the first activates the second: halted, idle, and the five blocks.
 pub const TABLE: &[u8] = b"\
-    OSEKTAB\x01\x00\
+    OSEKTAB\x02\x00\
     \x01\x00\x00\x00\x01\x00\x00\x00\x00\x01\x00\
     \x01\x00\x00\x00\x01\x01\x00\x00\x00\x00\x00\x00\x00\x00\x01\x00\
     \x01\x00\x00\x00\x01\x01\x00\x01\x00\x00\x00\x00\x00\x00\x01\x00\
@@ -15,12 +15,12 @@ pub const TABLE: &[u8] = b"\
 
 /// The table of one task, which ends itself: halted, idle, and the two blocks.
 const ONE_TASK_TABLE: &[u8] = b"\
-    OSEKTAB\x01\x00\
+    OSEKTAB\x02\x00\
     \x01\x00\x00\x00\x01\x00\
     \x01\x00\x00\x00\x01\x01\x00\x00\x00\x00\x00\
     \x00";
 
-const MAGIC: &[u8] = b"OSEKTAB\x01";
+const MAGIC: &[u8] = b"OSEKTAB\x02";
 
 /// A point that isn't in a table, and the byte that says that one is.
 const ABSENT: &[u8] = b"\x00";

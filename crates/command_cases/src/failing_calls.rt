@@ -1,10 +1,7 @@
 //! Commands whose calls on the shelf, on out and on err fail: each stops with the status and the text of the call that
 //! failed, and leaves a prefix of what it would have written.
 use crate::certificate_rows::TABLE;
-use crate::failing_cases::{
-    ALARMS, BUILD, CERTIFIES, CHECKS, Case, GENERATES, INFORMS, RECORDS, REPLAY, REPORTS, SHOWS,
-    TRACES, Turn, UPGRADES, WATCHES,
-};
+use crate::failing_cases::{Case, PRINTING, STORING, Turn};
 use crate::stored::{CODE, EVENTS, IMAGE, JUMP, OIL, RECORD};
 use commands::osekfit;
 use osek_io::{MemShelf, MemSink};
@@ -340,37 +337,26 @@ fn first_wrong_byte(
 }
 
 #[test]
-fn calls_that_fail_stop_build(rt: HostRuntime) {
-    assert_eq!(rt; first_wrong_two(rt.alloc(), &BUILD, None), Ok(None));
-    assert_eq!(rt;
-        first_wrong_two(rt.alloc(), &BUILD, Some(b"before")),
-        Ok(None)
-    );
-}
-
-#[test]
-fn calls_that_fail_stop_certify(rt: HostRuntime) {
-    assert_eq!(rt; first_wrong_two(rt.alloc(), &CERTIFIES, None), Ok(None));
-    assert_eq!(rt;
-        first_wrong_two(rt.alloc(), &CERTIFIES, Some(b"before")),
-        Ok(None)
-    );
-}
-
-#[test]
-fn calls_that_fail_stop_upgrade(rt: HostRuntime) {
-    assert_eq!(rt; first_wrong_two(rt.alloc(), &UPGRADES, None), Ok(None));
-    assert_eq!(rt;
-        first_wrong_two(rt.alloc(), &UPGRADES, Some(b"before")),
-        Ok(None)
-    );
+fn calls_that_fail_stop_what_stores(rt: HostRuntime) {
+    for case in &STORING {
+        assert_eq!(rt;
+            first_wrong_two(rt.alloc(), case, None),
+            Ok(None),
+            "{:?}",
+            case.words
+        );
+        assert_eq!(rt;
+            first_wrong_two(rt.alloc(), case, Some(b"before")),
+            Ok(None),
+            "{:?}",
+            case.words
+        );
+    }
 }
 
 #[test]
 fn calls_that_fail_stop_what_prints(rt: HostRuntime) {
-    for case in &[
-        REPLAY, TRACES, RECORDS, WATCHES, ALARMS, SHOWS, REPORTS, INFORMS, GENERATES, CHECKS,
-    ] {
+    for case in &PRINTING {
         assert_eq!(rt;
             first_wrong_two(rt.alloc(), case, None),
             Ok(None),
@@ -381,36 +367,16 @@ fn calls_that_fail_stop_what_prints(rt: HostRuntime) {
 }
 
 #[test]
-fn bytes_that_fail_stop_build(rt: HostRuntime) {
-    assert_eq!(rt; first_wrong_byte(rt.alloc(), &BUILD, None), Ok(None));
-    assert_eq!(rt;
-        first_wrong_byte(rt.alloc(), &BUILD, Some(b"before")),
-        Ok(None)
-    );
-}
-
-#[test]
-fn bytes_that_fail_stop_certify(rt: HostRuntime) {
-    assert_eq!(rt;
-        first_wrong_byte(rt.alloc(), &CERTIFIES, Some(b"before")),
-        Ok(None)
-    );
-}
-
-#[test]
-fn bytes_that_fail_stop_upgrade(rt: HostRuntime) {
-    assert_eq!(rt; first_wrong_byte(rt.alloc(), &UPGRADES, None), Ok(None));
-    assert_eq!(rt;
-        first_wrong_byte(rt.alloc(), &UPGRADES, Some(b"before")),
-        Ok(None)
-    );
-}
-
-#[test]
-fn bytes_that_fail_stop_what_runs(rt: HostRuntime) {
-    for case in &[REPLAY, TRACES, RECORDS] {
+fn bytes_that_fail_stop_what_stores(rt: HostRuntime) {
+    for case in &STORING {
         assert_eq!(rt;
             first_wrong_byte(rt.alloc(), case, None),
+            Ok(None),
+            "{:?}",
+            case.words
+        );
+        assert_eq!(rt;
+            first_wrong_byte(rt.alloc(), case, Some(b"before")),
             Ok(None),
             "{:?}",
             case.words
@@ -419,8 +385,8 @@ fn bytes_that_fail_stop_what_runs(rt: HostRuntime) {
 }
 
 #[test]
-fn bytes_that_fail_stop_what_tells_of_forms(rt: HostRuntime) {
-    for case in &[SHOWS, REPORTS, INFORMS] {
+fn bytes_that_fail_stop_what_prints(rt: HostRuntime) {
+    for case in &PRINTING {
         assert_eq!(rt;
             first_wrong_byte(rt.alloc(), case, None),
             Ok(None),
@@ -428,20 +394,4 @@ fn bytes_that_fail_stop_what_tells_of_forms(rt: HostRuntime) {
             case.words
         );
     }
-}
-
-#[test]
-fn bytes_that_fail_stop_watch(rt: HostRuntime) {
-    assert_eq!(rt; first_wrong_byte(rt.alloc(), &WATCHES, None), Ok(None));
-    assert_eq!(rt; first_wrong_byte(rt.alloc(), &ALARMS, None), Ok(None));
-}
-
-#[test]
-fn bytes_that_fail_stop_gen(rt: HostRuntime) {
-    assert_eq!(rt; first_wrong_byte(rt.alloc(), &GENERATES, None), Ok(None));
-}
-
-#[test]
-fn bytes_that_fail_stop_check(rt: HostRuntime) {
-    assert_eq!(rt; first_wrong_byte(rt.alloc(), &CHECKS, None), Ok(None));
 }

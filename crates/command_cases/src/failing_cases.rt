@@ -121,7 +121,7 @@ const ADDS_UPGRADED: Turn = Turn {
 };
 
 /// Compiles two texts, and stores the image.
-pub const BUILD: Case = Case {
+const BUILD: Case = Case {
     words: &["osekfit", "build", "a.oil", "a.c", "x"],
     turns: &[READS_OIL, READS_CODE, CREATES_IMAGE, ADDS_IMAGE],
     status: 0,
@@ -132,7 +132,7 @@ pub const BUILD: Case = Case {
 };
 
 /// Stores an image of version 1 as one of version 2.
-pub const UPGRADES: Case = Case {
+const UPGRADES: Case = Case {
     words: &["osekfit", "upgrade", "i", "x"],
     turns: &[READS_IMAGE, CREATES_IMAGE, ADDS_UPGRADED],
     status: 0,
@@ -143,7 +143,7 @@ pub const UPGRADES: Case = Case {
 };
 
 /// Runs an image over events.
-pub const REPLAY: Case = Case {
+const REPLAY: Case = Case {
     words: &["osekfit", "replay", "i", "OSDEFAULTAPPMODE", "e"],
     turns: &[READS_IMAGE, READS_EVENTS],
     status: 0,
@@ -154,7 +154,7 @@ pub const REPLAY: Case = Case {
 };
 
 /// Runs two texts over events.
-pub const TRACES: Case = Case {
+const TRACES: Case = Case {
     words: &["osekfit", "trace", "a.oil", "a.c", "OSDEFAULTAPPMODE", "e"],
     turns: &[READS_OIL, READS_CODE, READS_EVENTS],
     status: 0,
@@ -165,7 +165,7 @@ pub const TRACES: Case = Case {
 };
 
 /// Prints where an image is under events.
-pub const RECORDS: Case = Case {
+const RECORDS: Case = Case {
     words: &["osekfit", "record", "i", "OSDEFAULTAPPMODE", "e"],
     turns: &[READS_IMAGE, READS_EVENTS],
     status: 0,
@@ -176,7 +176,7 @@ pub const RECORDS: Case = Case {
 };
 
 /// Watches a record of a run.
-pub const WATCHES: Case = Case {
+const WATCHES: Case = Case {
     words: &["osekfit", "watch", "a.oil", "a.c", "r"],
     turns: &[READS_OIL, READS_CODE, READS_RECORD],
     status: 0,
@@ -187,7 +187,7 @@ pub const WATCHES: Case = Case {
 };
 
 /// Watches a record that no run has.
-pub const ALARMS: Case = Case {
+const ALARMS: Case = Case {
     words: &["osekfit", "watch", "a.oil", "a.c", "j"],
     turns: &[READS_OIL, READS_CODE, READS_JUMP],
     status: 15,
@@ -198,7 +198,7 @@ pub const ALARMS: Case = Case {
 };
 
 /// Prints what the analysis finds.
-pub const SHOWS: Case = Case {
+const SHOWS: Case = Case {
     words: &["osekfit", "show", "a.oil", "a.c"],
     turns: &[READS_OIL, READS_CODE],
     status: 0,
@@ -208,7 +208,7 @@ pub const SHOWS: Case = Case {
     table: None,
 };
 
-pub const REPORTS: Case = Case {
+const REPORTS: Case = Case {
     words: &["osekfit", "report", "a.oil", "a.c"],
     turns: &[READS_OIL, READS_CODE],
     status: 0,
@@ -219,7 +219,7 @@ pub const REPORTS: Case = Case {
 };
 
 /// Prints what an image has.
-pub const INFORMS: Case = Case {
+const INFORMS: Case = Case {
     words: &["osekfit", "info", "i"],
     turns: &[READS_IMAGE],
     status: 0,
@@ -230,7 +230,7 @@ pub const INFORMS: Case = Case {
 };
 
 /// Prints a generated application.
-pub const GENERATES: Case = Case {
+const GENERATES: Case = Case {
     words: &["osekfit", "gen", "1", "1"],
     turns: &[],
     status: 0,
@@ -241,7 +241,7 @@ pub const GENERATES: Case = Case {
 };
 
 /// Says that a table certifies an image.
-pub const CHECKS: Case = Case {
+const CHECKS: Case = Case {
     words: &["osekfit", "check", "i", "t"],
     turns: &[READS_IMAGE, READS_TABLE],
     status: 0,
@@ -252,7 +252,7 @@ pub const CHECKS: Case = Case {
 };
 
 /// Compiles two texts, and stores the image and the table that certifies it.
-pub const CERTIFIES: Case = Case {
+const CERTIFIES: Case = Case {
     words: &["osekfit", "certify", "a.oil", "a.c", "x", "y"],
     turns: &[
         READS_OIL,
@@ -268,3 +268,11 @@ pub const CERTIFIES: Case = Case {
     stored: Some(ACTIVATION_IMAGE),
     table: Some(TABLE),
 };
+
+/// The commands that store what they make.
+pub const STORING: [Case; 3] = [BUILD, CERTIFIES, UPGRADES];
+
+/// The commands that print alone.
+pub const PRINTING: [Case; 10] = [
+    REPLAY, TRACES, RECORDS, WATCHES, ALARMS, SHOWS, REPORTS, INFORMS, GENERATES, CHECKS,
+];

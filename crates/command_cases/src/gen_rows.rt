@@ -3,7 +3,7 @@ use crate::rows::{Act, Row};
 
 /// The line of `gen 1 1`.
 pub const GEN_ONE: &str =
-    "points 22 height 65 values 130 never 0 stay 3 direct 1 general 2 bytes 15382 lines 1001\n";
+    "points 22 height 80 values 172 never 0 stay 3 direct 1 general 2 bytes 15382 lines 1001\n";
 
 /// Rows of `gen`.
 pub const GEN_ROWS: [Row; 4] = [
@@ -13,7 +13,7 @@ pub const GEN_ROWS: [Row; 4] = [
         acts: &[
             Act::Frames(
                 &["gen", "1", "1"],
-                "points 22 height 65 values ",
+                "points 22 height 80 values ",
                 " lines 1001\n",
             ),
             Act::Run(&["gen", "1", "1"], 0, GEN_ONE, ""),
@@ -32,19 +32,19 @@ pub const GEN_ROWS: [Row; 4] = [
             Act::Run(
                 &["gen", "1", "2"],
                 0,
-                "points 37 height 128 values 263 never 3 stay 5 direct 2 general 1 bytes 44964 lines 2001\n",
+                "points 37 height 143 values 327 never 3 stay 5 direct 2 general 1 bytes 44964 lines 2001\n",
                 "",
             ),
             Act::Run(
                 &["gen", "1", "3"],
                 0,
-                "points 52 height 191 values 1049 never 0 stay 11 direct 1 general 6 bytes 96185 lines 3001\n",
+                "points 52 height 206 values 1151 never 0 stay 11 direct 1 general 6 bytes 96185 lines 3001\n",
                 "",
             ),
             Act::Run(
                 &["gen", "7", "2"],
                 0,
-                "points 37 height 128 values 396 never 0 stay 3 direct 0 general 4 bytes 45759 lines 2001\n",
+                "points 37 height 143 values 468 never 0 stay 3 direct 0 general 4 bytes 45759 lines 2001\n",
                 "",
             ),
         ],
@@ -55,7 +55,7 @@ pub const GEN_ROWS: [Row; 4] = [
         files: &[],
         acts: &[Act::Frames(
             &["gen", "1", "16"],
-            "points 247 height 1010 values ",
+            "points 247 height 1025 values ",
             " lines 16001\n",
         )],
     },

@@ -291,7 +291,7 @@ edge b8/T1 b5
 edge b8/T2 b5
 edge b8/T5 b5
 edge b8/T5 b6
-points 19 height 33 values 94 edges 29
+points 19 height 38 values 109 edges 29
 ",
                 "",
             ),

@@ -1,12 +1,9 @@
 //! Images that somebody cut or changed, from bytes that stand here.
-use crate::failing_calls::words_of;
+use crate::acting::{Wanted, gives};
 use crate::stored::{IMAGE, ONE_TASK_IMAGE};
-use commands::osekfit;
-use osek_io::{MemShelf, MemSink};
+use osek_io::MemShelf;
 use osek_values::Memory;
 use std::alloc::Global;
-
-const ROOM: usize = 1_000;
 
 /// Whether a command over an image `b` and the events `e` answers and writes this.
 fn answers(
@@ -17,14 +14,15 @@ fn answers(
     text: &str,
     told: &str,
 ) -> Result<bool, Memory> {
-    let words = words_of(alloc, words)?;
     let mut shelf = MemShelf::new(alloc, Vec::new(alloc));
     shelf.set("b", Some(image), 0)?;
     shelf.set("e", Some(runs(alloc)?.as_slice()), 0)?;
-    let mut out = MemSink::new(alloc, Vec::new(alloc), ROOM)?;
-    let mut err = MemSink::new(alloc, Vec::new(alloc), ROOM)?;
-    let answer = osekfit(alloc, &words, &mut shelf, &mut out, &mut err);
-    Ok(answer == status && out.bytes() == text.as_bytes() && err.bytes() == told.as_bytes())
+    gives(
+        alloc,
+        &mut shelf,
+        words,
+        Wanted::Exactly(status, text, told),
+    )
 }
 
 /// The events of a thousand runs.
@@ -58,7 +56,7 @@ fn field_at(len: usize) -> usize {
 fn is_cut(alloc: Global, len: usize) -> Result<bool, Memory> {
     let told = format!(in alloc; "b:{}: I1\n", field_at(len))?;
     let bytes = IMAGE.get(..len).unwrap_or(b"");
-    answers(alloc, bytes, &["osekfit", "info", "b"], 3, "", &told)
+    answers(alloc, bytes, &["info", "b"], 3, "", &told)
 }
 
 /// The first length that the image isn't rightly cut to.
@@ -94,7 +92,7 @@ const CHANGED: [(usize, u8, &str); 3] = [
 
 fn is_told(alloc: Global, at: usize, byte: u8, told: &str) -> Result<bool, Memory> {
     let bytes = changed(alloc, IMAGE, at, byte)?;
-    answers(alloc, &bytes, &["osekfit", "info", "b"], 3, "", told)
+    answers(alloc, &bytes, &["info", "b"], 3, "", told)
 }
 
 #[test]
@@ -112,13 +110,14 @@ fn changed_bytes_are_told(rt: HostRuntime) {
 fn traps(alloc: Global, form: u8) -> Result<bool, Memory> {
     let bytes = changed(alloc, ONE_TASK_IMAGE, 79, form)?;
     let bytes = changed(alloc, &bytes, 80, 0)?;
-    let words = ["osekfit", "replay", "b", "OSDEFAULTAPPMODE", "e"];
+    let words = ["replay", "b", "OSDEFAULTAPPMODE", "e"];
     answers(alloc, &bytes, &words, 8, "0 T1 T1=R\ntrap 1\n", "")
 }
 
 #[test]
 fn a_wrong_form_traps_at_once(rt: HostRuntime) {
-    // Stay, where the task has ended; and direct to the task itself.
+    // Never, where the call comes; stay, where the task has ended; and direct to the task itself.
+    assert_eq!(rt; traps(rt.alloc(), 0), Ok(true));
     assert_eq!(rt; traps(rt.alloc(), 1), Ok(true));
     assert_eq!(rt; traps(rt.alloc(), 2), Ok(true));
 }

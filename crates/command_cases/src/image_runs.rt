@@ -1,19 +1,10 @@
 //! Runs over an image of version 1 that stands as bytes.
 use crate::acting::{ROOM, Wanted, all_hold, gives, put_places};
 use crate::rows::Act;
+use crate::stored::ONE_TASK_IMAGE;
 use osek_io::MemShelf;
 use osek_values::Memory;
 use std::alloc::Global;
-
-/// An image of one task, which terminates.
-const ONE_TASK: [u8; 89] = [
-    0x4f, 0x53, 0x45, 0x4b, 0x46, 0x49, 0x54, 0x01, 0x00, 0x01, 0x00, 0x00, 0x00, 0x01, 0x01, 0x00,
-    0x02, 0x02, 0x54, 0x31, 0x00, 0x01, 0x01, 0x00, 0x00, 0x00, 0x00, 0x00, 0x00, 0x00, 0x00, 0x01,
-    0x00, 0x00, 0x00, 0x02, 0x0d, 0x52, 0x45, 0x53, 0x5f, 0x53, 0x43, 0x48, 0x45, 0x44, 0x55, 0x4c,
-    0x45, 0x52, 0x00, 0x00, 0x00, 0x03, 0x10, 0x4f, 0x53, 0x44, 0x45, 0x46, 0x41, 0x55, 0x4c, 0x54,
-    0x41, 0x50, 0x50, 0x4d, 0x4f, 0x44, 0x45, 0x04, 0x00, 0x00, 0x00, 0x00, 0x01, 0x00, 0x01, 0x02,
-    0xff, 0x16, 0x00, 0x00, 0x00, 0x00, 0x01, 0x00, 0x00,
-];
 
 fn put_inputs(shelf: &mut MemShelf, image: &[u8], events: &[u8]) -> Result<(), Memory> {
     shelf.set("i", Some(image), 0)?;
@@ -38,36 +29,25 @@ const REPLAY: [&str; 4] = ["replay", "i", "OSDEFAULTAPPMODE", "e"];
 #[test]
 fn the_trace_of_a_task(rt: HostRuntime) {
     let wanted = Wanted::Exactly(0, "0 T1 T1=R\n1 - T1=S\n", "");
-    let right = run_gives(rt.alloc(), &REPLAY, &ONE_TASK, b"run 0\n", wanted);
-    assert_eq!(rt; right, Ok(true));
-}
-
-#[test]
-fn a_site_that_is_never_reached_traps(rt: HostRuntime) {
-    let mut image = ONE_TASK;
-    image[79] = 0;
-    image[80] = 0;
-    let wanted = Wanted::Exactly(8, "0 T1 T1=R\ntrap 1\n", "");
-    let right = run_gives(rt.alloc(), &REPLAY, &image, b"run 0\nrun 0\n", wanted);
+    let right = run_gives(rt.alloc(), &REPLAY, ONE_TASK_IMAGE, b"run 0\n", wanted);
     assert_eq!(rt; right, Ok(true));
 }
 
 #[test]
 fn the_event_text_is_faulty(rt: HostRuntime) {
     let wanted = Wanted::Exactly(4, "0 T1 T1=R\n", "e:1: E1\n");
-    let right = run_gives(rt.alloc(), &REPLAY, &ONE_TASK, b"run 2\n", wanted);
+    let right = run_gives(rt.alloc(), &REPLAY, ONE_TASK_IMAGE, b"run 2\n", wanted);
     assert_eq!(rt; right, Ok(true));
 }
 
 /// The same image after `upgrade`: of version 2, and nothing is known of a status.
-const ONE_TASK_UPGRADED: [u8; 96] = [
-    0x4f, 0x53, 0x45, 0x4b, 0x46, 0x49, 0x54, 0x02, 0x00, 0x01, 0x00, 0x00, 0x00, 0x01, 0x01, 0x00,
-    0x02, 0x02, 0x54, 0x31, 0x00, 0x01, 0x01, 0x00, 0x00, 0x00, 0x00, 0x00, 0x00, 0x00, 0x00, 0x01,
-    0x00, 0x00, 0x00, 0x02, 0x01, 0xff, 0x0d, 0x52, 0x45, 0x53, 0x5f, 0x53, 0x43, 0x48, 0x45, 0x44,
-    0x55, 0x4c, 0x45, 0x52, 0x00, 0x00, 0x00, 0x03, 0x00, 0x00, 0x00, 0x10, 0x4f, 0x53, 0x44, 0x45,
-    0x46, 0x41, 0x55, 0x4c, 0x54, 0x41, 0x50, 0x50, 0x4d, 0x4f, 0x44, 0x45, 0x04, 0x00, 0x00, 0x00,
-    0x00, 0x01, 0x00, 0x01, 0x02, 0xff, 0xff, 0x16, 0x00, 0x00, 0x00, 0x00, 0x01, 0x00, 0x00, 0xff,
-];
+const ONE_TASK_UPGRADED: &[u8] = b"\
+    OSEKFIT\x02\x00\x01\x00\x00\x00\x01\x01\x00\x02\
+    \x02T1\x00\x01\x01\x00\x00\x00\x00\x00\x00\x00\x00\x01\x00\x00\x00\x02\x01\xff\
+    \x0dRES_SCHEDULER\x00\x00\x00\x03\x00\x00\x00\
+    \x10OSDEFAULTAPPMODE\
+    \x04\x00\x00\x00\x00\x01\x00\x01\x02\xff\xff\
+    \x16\x00\x00\x00\x00\x01\x00\x00\xff";
 
 /// What is done with the image of version 1 at `i`, and with what becomes of it at `x`, over itself at last.
 const UPGRADE_ACTS: [Act; 8] = [
@@ -78,7 +58,7 @@ const UPGRADE_ACTS: [Act; 8] = [
         "",
     ),
     Act::Run(&["upgrade", "i", "x"], 0, "", ""),
-    Act::Holds("x", &ONE_TASK_UPGRADED),
+    Act::Holds("x", ONE_TASK_UPGRADED),
     Act::Run(
         &["replay", "x", "OSDEFAULTAPPMODE", "e"],
         0,
@@ -93,12 +73,12 @@ const UPGRADE_ACTS: [Act; 8] = [
     ),
     Act::Run(&["upgrade", "x", "a.img"], 10, "", "x: version 2\n"),
     Act::Run(&["upgrade", "i", "i"], 0, "", ""),
-    Act::Holds("i", &ONE_TASK_UPGRADED),
+    Act::Holds("i", ONE_TASK_UPGRADED),
 ];
 
 fn upgrade_holds(alloc: Global) -> Result<bool, Memory> {
     let mut shelf = MemShelf::new(alloc, Vec::new(alloc));
-    shelf.set("i", Some(ONE_TASK.as_slice()), ROOM)?;
+    shelf.set("i", Some(ONE_TASK_IMAGE), ROOM)?;
     shelf.set("e", Some(b"run 0\n".as_slice()), 0)?;
     put_places(&mut shelf)?;
     let right = all_hold(alloc, &mut shelf, &UPGRADE_ACTS)?;
@@ -114,6 +94,6 @@ fn an_image_of_version_1_is_upgraded(rt: HostRuntime) {
 fn words_of_no_form_are_refused(rt: HostRuntime) {
     let words = ["replay", "i", "e"];
     let wanted = Wanted::Exactly(2, "", "usage\n");
-    let right = run_gives(rt.alloc(), &words, &ONE_TASK, b"", wanted);
+    let right = run_gives(rt.alloc(), &words, ONE_TASK_IMAGE, b"", wanted);
     assert_eq!(rt; right, Ok(true));
 }

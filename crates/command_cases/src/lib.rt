@@ -36,6 +36,10 @@ mod long_inputs;
 #[cfg(test)]
 mod long_rows;
 #[cfg(test)]
+mod nest_resource_rows;
+#[cfg(test)]
+mod nest_rows;
+#[cfg(test)]
 mod priority_rows;
 #[cfg(test)]
 mod real_files;

@@ -1,10 +1,9 @@
 //! An image, an event text, a table and a record at their limits, and of one byte more.
+use crate::acting::{Wanted, gives};
 use crate::certificate_rows::TABLE;
-use crate::failing_calls::words_of;
 use crate::rows::ACTIVATION_IMAGE;
 use crate::stored::ONE_TASK_IMAGE;
-use commands::osekfit;
-use osek_io::{MemShelf, MemSink};
+use osek_io::MemShelf;
 use osek_values::Memory;
 use std::alloc::Global;
 
@@ -17,7 +16,7 @@ struct Told {
 }
 
 /// Whether a run with these words over these files is so.
-fn gives(
+fn tells(
     alloc: Global,
     words: &[&str],
     files: &[(&str, &[u8])],
@@ -27,14 +26,11 @@ fn gives(
     for (name, bytes) in files {
         shelf.set(name, Some(*bytes), 0)?;
     }
-    let words = words_of(alloc, words)?;
-    let mut out = MemSink::new(alloc, Vec::new(alloc), 100)?;
-    let mut err = MemSink::new(alloc, Vec::new(alloc), 100)?;
-    let status = osekfit(alloc, &words, &mut shelf, &mut out, &mut err);
-    Ok(
-        status == told.status
-            && out.bytes() == told.out.as_bytes()
-            && err.bytes() == told.err.as_bytes(),
+    gives(
+        alloc,
+        &mut shelf,
+        words,
+        Wanted::Exactly(told.status, told.out, told.err),
     )
 }
 
@@ -50,7 +46,7 @@ fn image_gives(alloc: Global, size: usize, err: &'static str) -> Result<bool, Me
         out: "",
         err,
     };
-    gives(alloc, &["osekfit", "info", "i"], &[("i", &image)], told)
+    tells(alloc, &["info", "i"], &[("i", &image)], told)
 }
 
 #[test]
@@ -78,9 +74,9 @@ fn comments_and(alloc: Global, line: &[u8], behind: &[u8]) -> Result<Vec<u8>, Me
 
 fn events_give(alloc: Global, behind: &[u8], told: Told) -> Result<bool, Memory> {
     let events = comments_and(alloc, b"run 0\n", behind)?;
-    let words = ["osekfit", "replay", "i", "OSDEFAULTAPPMODE", "e"];
+    let words = ["replay", "i", "OSDEFAULTAPPMODE", "e"];
     let files: [(&str, &[u8]); 2] = [("i", ONE_TASK_IMAGE), ("e", &events)];
-    gives(alloc, &words, &files, told)
+    tells(alloc, &words, &files, told)
 }
 
 #[test]
@@ -121,7 +117,7 @@ fn table_gives(alloc: Global, behind: &[u8], err: &'static str) -> Result<bool, 
         err,
     };
     let files: [(&str, &[u8]); 2] = [("i", ACTIVATION_IMAGE), ("e", &table)];
-    gives(alloc, &["osekfit", "check", "i", "e"], &files, told)
+    tells(alloc, &["check", "i", "e"], &files, told)
 }
 
 #[test]
@@ -138,7 +134,7 @@ fn record_gives(alloc: Global, points: &[u8], told: Told) -> Result<bool, Memory
     let oil: &[u8] = b"CPU c { OS os; TASK T1 { PRIORITY = 1; AUTOSTART = TRUE; }; };";
     let code: &[u8] = b"TASK(T1) { TerminateTask(); }";
     let files: [(&str, &[u8]); 3] = [("o", oil), ("c", code), ("r", points)];
-    gives(alloc, &["osekfit", "watch", "o", "c", "r"], &files, told)
+    tells(alloc, &["watch", "o", "c", "r"], &files, told)
 }
 
 fn comments_give(alloc: Global, behind: &[u8], told: Told) -> Result<bool, Memory> {

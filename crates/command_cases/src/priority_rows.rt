@@ -257,7 +257,7 @@ edge b5/- b3
 edge b5/T1 b3
 edge b5/T2 b3
 edge b5/T3 b3
-points 14 height 15 values 60 edges 23
+points 14 height 20 values 73 edges 23
 ",
                 "",
             ),

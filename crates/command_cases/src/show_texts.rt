@@ -27,7 +27,7 @@ edge b9/Lamp b1
 edge b9/Lamp b2
 edge b9/Lamp b3
 edge b9/Rest b2
-points 16 height 28 values 48 edges 21
+points 16 height 33 values 58 edges 21
 ";
 
 /// `examples/body/body.show`.
@@ -105,22 +105,44 @@ edge b18/Light b4
 edge b18/Light b5
 edge b18/Light b6
 edge b18/Light b7
+edge b18/Light b19/Light
+edge b18/Light b20/Light
+edge b18/Light b21/Light
+edge b18/Light b22/Light
 edge b18/Window b2
 edge b18/Window b6
 edge b18/Window b9
 edge b18/Window b10
+edge b18/Window b19/Window
+edge b18/Window b20/Window
+edge b18/Window b21/Window
+edge b18/Window b22/Window
 edge b18/Watch b2
 edge b18/Watch b6
+edge b18/Watch b9
 edge b18/Watch b12
 edge b18/Watch b13
+edge b18/Watch b19/Watch
+edge b18/Watch b20/Watch
+edge b18/Watch b21/Watch
+edge b18/Watch b22/Watch
+edge b19/Light b15/Light
 edge b19/Light b20/Light
+edge b19/Window b15/Window
 edge b19/Window b20/Window
+edge b19/Watch b15/Watch
 edge b19/Watch b20/Watch
+edge b20/Light b15/Light
 edge b20/Light b21/Light
+edge b20/Window b15/Window
 edge b20/Window b21/Window
+edge b20/Watch b15/Watch
 edge b20/Watch b21/Watch
+edge b21/Light b15/Light
 edge b21/Light b22/Light
+edge b21/Window b15/Window
 edge b21/Window b22/Window
+edge b21/Watch b15/Watch
 edge b21/Watch b22/Watch
 edge b22/Light b0
 edge b22/Light b1
@@ -130,14 +152,19 @@ edge b22/Light b4
 edge b22/Light b5
 edge b22/Light b6
 edge b22/Light b7
+edge b22/Light b15/Light
+edge b22/Window b2
 edge b22/Window b6
 edge b22/Window b9
 edge b22/Window b10
+edge b22/Window b15/Window
+edge b22/Watch b2
 edge b22/Watch b6
 edge b22/Watch b9
 edge b22/Watch b12
 edge b22/Watch b13
-points 49 height 43 values 647 edges 97
+edge b22/Watch b15/Watch
+points 49 height 53 values 798 edges 124
 ";
 
 /// `examples/engine/engine.show`.
@@ -252,5 +279,5 @@ edge b23/Diagnosis b14
 edge b23/Diagnosis b15
 edge b23/Diagnosis b16
 edge b23/Diagnosis b17
-points 41 height 119 values 335 edges 99
+points 41 height 134 values 409 edges 99
 ";

@@ -108,8 +108,8 @@ const FILES: [(&str, &[u8]); 10] = [
     ("e", EVENTS),
     ("new", UPGRADED_IMAGE),
     ("bad", b"run 0\nrun 0\nirq X\n"),
-    ("t", b"OSEKTAB\x01"),
-    ("none at all", b"OSEKTAB\x01\0\0\0\0\0\0\0"),
+    ("t", b"OSEKTAB\x02"),
+    ("none at all", b"OSEKTAB\x02\0\0\0\0\0\0\0"),
     (
         "five",
         b"CPU c {\nOS os;\nTASK T1 { PRIORITY = 1; };\nTASK T2 { PRIORITY = 1; };\nTASK T3 { SCHEDULE = FULL; };\n};\n",

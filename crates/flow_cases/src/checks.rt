@@ -23,8 +23,8 @@ struct Case {
     code: &'static [u8],
 }
 
-/// A task alone, a preemption, an interrupt, an event, alarms at one tick, a resource.
-const CASES: [Case; 6] = [
+/// A task alone, a preemption, an interrupt, an event, alarms at one tick, a resource, a routine over another.
+const CASES: [Case; 7] = [
     Case {
         oil: b"CPU c { OS os; TASK T1 { PRIORITY = 1; AUTOSTART = TRUE; }; };",
         code: b"TASK(T1) { TerminateTask(); }",
@@ -48,6 +48,10 @@ const CASES: [Case; 6] = [
     Case {
         oil: b"CPU c { OS os; RESOURCE R { RESOURCEPROPERTY = STANDARD; }; TASK T1 { PRIORITY = 1; AUTOSTART = TRUE; RESOURCE = R; }; TASK T2 { PRIORITY = 2; RESOURCE = R; }; };",
         code: b"TASK(T1) { GetResource(R); ActivateTask(T2); ReleaseResource(R); TerminateTask(); } TASK(T2) { GetResource(R); ReleaseResource(R); TerminateTask(); }",
+    },
+    Case {
+        oil: b"CPU c { OS os; RESOURCE R; TASK T1 { PRIORITY = 1; AUTOSTART = TRUE; RESOURCE = R; }; TASK T2 { PRIORITY = 2; }; ISR I1 { CATEGORY = 2; PRIORITY = 1; RESOURCE = R; }; ISR I2 { CATEGORY = 2; PRIORITY = 2; }; };",
+        code: b"TASK(T1) { GetResource(R); ReleaseResource(R); TerminateTask(); } TASK(T2) { TerminateTask(); } ISR(I1) { GetResource(R); ReleaseResource(R); } ISR(I2) { ActivateTask(T2); }",
     },
 ];
 

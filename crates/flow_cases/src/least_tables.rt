@@ -81,7 +81,7 @@ const CASES: [Case; 11] = [
         oil: b"CPU c { OS os; TASK T1 { PRIORITY = 2; AUTOSTART = TRUE; }; TASK T2 { PRIORITY = 1; }; ISR I { CATEGORY = 2; }; };",
         code: b"TASK(T1) { TerminateTask(); } TASK(T2) { TerminateTask(); } ISR(I) { ActivateTask(T2); }",
         entries: 9,
-        values: 20,
+        values: 29,
     },
     // an event set while waiting
     Case {
@@ -95,7 +95,7 @@ const CASES: [Case; 11] = [
         oil: b"CPU c { OS os; COUNTER C { MAXALLOWEDVALUE = 9; }; EVENT E; ALARM A1 { COUNTER = C; ACTION = ACTIVATETASK { TASK = T2; }; AUTOSTART = TRUE { ALARMTIME = 1; CYCLETIME = 0; }; }; ALARM A2 { COUNTER = C; ACTION = SETEVENT { TASK = T2; EVENT = E; }; AUTOSTART = TRUE { ALARMTIME = 1; CYCLETIME = 0; }; }; TASK T1 { PRIORITY = 1; AUTOSTART = TRUE; }; TASK T2 { PRIORITY = 2; EVENT = E; }; };",
         code: b"TASK(T1) { while (1) { } } TASK(T2) { WaitEvent(E); }",
         entries: 11,
-        values: 100,
+        values: 111,
     },
     // two tasks that are preempted while they hold one resource: by the values either may have been preempted last
     Case {

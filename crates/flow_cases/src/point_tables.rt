@@ -1,7 +1,7 @@
 //! Least tables of worked applications, point by point: what each component can be there.
 ghost use Rattle.std.specs.Prelude.{◌≡◌, ◌<◌};
 
-use abstract_state::{LiveVal, PartValue, PlainEntry, Point, Val, ValueSet};
+use abstract_state::{LiveVal, PartValue, PlainEntry, Point, SourceVal, Val, ValueSet};
 use front_end::{TextError, read_app, read_system};
 use numbered_sets::{Table, plain};
 use osek_standard::App;
@@ -15,7 +15,7 @@ use std::test::*;
 // ---- a table as text
 
 // l0: Live at block 0; l0*2: with two further activations; l0+G: inside its INTERNAL resource; l0+R1: and it holds resource 1; w4: it waits at block
-// 4; -: suspended, idle or not set; +: armed or set
+// 4; i5+R1: a routine is in at block 5, and holds resource 1; -: suspended, idle, not set or out; +: armed or set
 fn push_value(alloc: Global, value: &PartValue, text: &mut String) -> Result<(), Memory> {
     match value {
         PartValue::OfTask(Val::Suspended) => text.push_str("-")?,
@@ -25,6 +25,13 @@ fn push_value(alloc: Global, value: &PartValue, text: &mut String) -> Result<(),
         }
         PartValue::OfEvent(is_set) => text.push_str(if *is_set { "+" } else { "-" })?,
         PartValue::OfAlarm(is_armed) => text.push_str(if *is_armed { "+" } else { "-" })?,
+        PartValue::OfSource(SourceVal::Out) => text.push_str("-")?,
+        PartValue::OfSource(SourceVal::In(routine)) => {
+            text.push_str(format!(in alloc; "i{}", routine.block.0)?.as_str())?;
+            for resource in routine.held.as_slice() {
+                text.push_str(format!(in alloc; "+R{}", resource.0)?.as_str())?;
+            }
+        }
     }
     Ok(())
 }
@@ -164,17 +171,54 @@ fn two_alarms_at_one_tick(rt: HostRuntime) {
         b"CPU c { OS os; COUNTER C { MAXALLOWEDVALUE = 9; }; EVENT E; ALARM A1 { COUNTER = C; ACTION = ACTIVATETASK { TASK = T2; }; AUTOSTART = TRUE { ALARMTIME = 1; CYCLETIME = 0; }; }; ALARM A2 { COUNTER = C; ACTION = SETEVENT { TASK = T2; EVENT = E; }; AUTOSTART = TRUE { ALARMTIME = 1; CYCLETIME = 0; }; }; TASK T1 { PRIORITY = 1; AUTOSTART = TRUE; }; TASK T2 { PRIORITY = 2; EVENT = E; }; };";
     let code = b"TASK(T1) { while (1) { } } TASK(T2) { WaitEvent(E); }";
     let wanted = "\
-        b0: l0; - w2; - +; - +; - +;\n\
-        b2: l0; l2; - +; - +; - +;\n\
-        b3: l0; l3; - +; - +; - +;\n\
-        b4 over t0: l0; - w2; - +; - +; - +;\n\
-        b4 over t1: l0; l2 l3; - +; - +; - +;\n\
-        b5 over t0: l0; - w2; - +; - +; - +;\n\
-        b5 over t1: l0; l2 l3; - +; - +; - +;\n\
-        b6 over t0: l0; - l2 w2; - +; - +; - +;\n\
-        b6 over t1: l0; l2 l3; - +; - +; - +;\n\
-        b7 over t0: l0; - l2 l3 w2; - +; - +; - +;\n\
-        b7 over t1: l0; l2 l3; - +; - +; - +;\n\
+        b0: l0; - w2; - +; - +; - +; -;\n\
+        b2: l0; l2; - +; - +; - +; -;\n\
+        b3: l0; l3; - +; - +; - +; -;\n\
+        b4 over t0: l0; - w2; - +; - +; - +; i4;\n\
+        b4 over t1: l0; l2 l3; - +; - +; - +; i4;\n\
+        b5 over t0: l0; - w2; - +; - +; - +; i5;\n\
+        b5 over t1: l0; l2 l3; - +; - +; - +; i5;\n\
+        b6 over t0: l0; - l2 w2; - +; - +; - +; i6;\n\
+        b6 over t1: l0; l2 l3; - +; - +; - +; i6;\n\
+        b7 over t0: l0; - l2 l3 w2; - +; - +; - +; i7;\n\
+        b7 over t1: l0; l2 l3; - +; - +; - +; i7;\n\
+    ";
+    assert!(rt; is_least_table(rt.alloc(), oil, code, wanted));
+}
+
+// the higher routine begins over the lower one, which goes on over the same task, and what it activates waits until no routine is in
+#[test]
+fn a_routine_begins_over_another(rt: HostRuntime) {
+    let oil =
+        b"CPU c { OS os; TASK T1 { PRIORITY = 1; AUTOSTART = TRUE; }; TASK T2 { PRIORITY = 2; }; ISR I1 { CATEGORY = 2; PRIORITY = 1; }; ISR I2 { CATEGORY = 2; PRIORITY = 2; }; };";
+    let code =
+        b"TASK(T1) { while (1) { } } TASK(T2) { TerminateTask(); } ISR(I1) { } ISR(I2) { ActivateTask(T2); }";
+    let wanted = "\
+        b0: l0; -; -; -;\n\
+        b2: l0; l2; -; -;\n\
+        b4 over t0: l0; - l2; i4; -;\n\
+        b4 over t1: l0; l2; i4; -;\n\
+        b5 over t0: l0; - l2; - i4; i5;\n\
+        b5 over t1: l0; l2; - i4; i5;\n\
+        b6 over t0: l0; l2; - i4; i6;\n\
+        b6 over t1: l0; l2; - i4; i6;\n\
+    ";
+    assert!(rt; is_least_table(rt.alloc(), oil, code, wanted));
+}
+
+// a resource of two routines keeps the higher one out
+#[test]
+fn a_ceiling_delays_a_higher_routine(rt: HostRuntime) {
+    let oil =
+        b"CPU c { OS os; RESOURCE Res; TASK T1 { PRIORITY = 1; AUTOSTART = TRUE; }; ISR I1 { CATEGORY = 2; PRIORITY = 1; RESOURCE = Res; }; ISR I2 { CATEGORY = 2; PRIORITY = 2; RESOURCE = Res; }; };";
+    let code =
+        b"TASK(T1) { while (1) { } } ISR(I1) { GetResource(Res); ReleaseResource(Res); } ISR(I2) { }";
+    let wanted = "\
+        b0: l0; -; -;\n\
+        b2 over t0: l0; i2; -;\n\
+        b3 over t0: l0; i3+R0; -;\n\
+        b4 over t0: l0; i4; -;\n\
+        b5 over t0: l0; - i2 i4; i5;\n\
     ";
     assert!(rt; is_least_table(rt.alloc(), oil, code, wanted));
 }

@@ -81,7 +81,7 @@ struct Case {
 }
 
 /// Worked out from the kernel's rules, without this program.
-const CASES: [Case; 12] = [
+const CASES: [Case; 13] = [
     // nothing declared
     Case {
         oil: b"CPU c { OS os; };",
@@ -122,6 +122,12 @@ const CASES: [Case; 12] = [
         oil: b"CPU c { OS os; RESOURCE R; TASK T1 { PRIORITY = 1; AUTOSTART = TRUE; RESOURCE = R; }; TASK T2 { PRIORITY = 5; AUTOSTART = TRUE; }; };",
         code: b"TASK(T1) { GetResource(R); GetResource(R); ReleaseResource(R); if (?) { work 1; } GetResource(R); ReleaseResource(R); } TASK(T2) { GetResource(R); }",
         findings: "free b0\nfree b5\nfree b8\n",
+    },
+    // GetResource of what the calling routine holds
+    Case {
+        oil: b"CPU c { OS os; RESOURCE R; TASK T1 { PRIORITY = 1; AUTOSTART = TRUE; RESOURCE = R; }; ISR I { CATEGORY = 2; PRIORITY = 1; RESOURCE = R; }; };",
+        code: b"TASK(T1) { while (1) { } } ISR(I) { GetResource(R); GetResource(R); ReleaseResource(R); }",
+        findings: "free b2\ndead b1\n",
     },
     // all hooks, and nothing that starts: a shutdown that is never reached
     Case {

@@ -13,7 +13,7 @@ use Rattle.flow_exits.specs.{declared.exit.Exit.{Exit}, Exits.{CoverInstructions
 use Rattle.numbered_sets.specs.Pools.{Values}
 use Rattle.flow_rules.specs.declared.group.{NumberEnd.{NumberEnd}, Ends.{Ends}, ExitGroup.{ExitGroup}}
 use Rattle.flow_rules.specs.declared.group.Ends.TheVariants as ends
-use Rattle.flow_rules.specs.Groups.{holding, exit_at, exits_by, exits_of, all_exits}
+use Rattle.flow_rules.specs.Groups.{with_end, exit_at, exits_by, exits_of, all_exits}
 use Rattle.flow_check.specs.{declared.found.Findings.{Findings}, Found.{Seen, Nothing, Alone, IsSeen, AreJoined, outcome_seen, status_seen, AreJoinedFindings, IsTold}}
 use Rattle.flow_check.specs.Outcomes.{end_count, status_noted, Arises, IsOfExit, IsOfExits, AreOfRow, AreOfExits}
 use Rattle.flow_check.proofs.Joining.{same_decision, same_status, status_once, joined_nothing, same_seen, joined_seen, seen_already}
@@ -111,8 +111,8 @@ alike_in_group pool g (ends.At points) x m =
     let f = exit_at pool g g.entry in
     let is = map_among f x points (contained_among (map f points) x m) in
     (ap (λ (y : Exit). y.decision) is.2, ap (λ (y : Exit). y.status) is.2)
-alike_in_group pool g (ends.With c ns) x m =
-    let f = λ (n : NumberEnd). exit_at pool g (holding g.entry c n.numbers) n.target in
+alike_in_group pool g (ends.With ns) x m =
+    let f = λ (n : NumberEnd). exit_at pool g (with_end g.entry n) n.target in
     let is = map_among f x ns (contained_among (map f ns) x m) in
     (ap (λ (y : Exit). y.decision) is.2, ap (λ (y : Exit). y.status) is.2)
 
@@ -121,16 +121,16 @@ some_in_group pool g (ends.At []) some = absurd (omega (arith, some))
 some_in_group pool g (ends.At (p ∷ ps)) some =
     let f = exit_at pool g g.entry in
     (f p, among_contained (map f (p ∷ ps)) (f p) (inl refl))
-some_in_group pool g (ends.With c []) some = absurd (omega (arith, some))
-some_in_group pool g (ends.With c (n ∷ ns)) some =
-    let f = λ (x : NumberEnd). exit_at pool g (holding g.entry c x.numbers) x.target in
+some_in_group pool g (ends.With []) some = absurd (omega (arith, some))
+some_in_group pool g (ends.With (n ∷ ns)) some =
+    let f = λ (x : NumberEnd). exit_at pool g (with_end g.entry x) x.target in
     (f n, among_contained (map f (n ∷ ns)) (f n) (inl refl))
 
 pub none_in_group : (pool : List Values) (g : ExitGroup) (xs : Ends) → end_count xs ≡ 0 → (x : Exit) → Contains (exits_by pool g xs) x → ⊥
 none_in_group pool g (ends.At []) none x m = contained_among [] x m
 none_in_group pool g (ends.At (p ∷ ps)) none x m = absurd (omega (arith, none))
-none_in_group pool g (ends.With c []) none x m = contained_among [] x m
-none_in_group pool g (ends.With c (n ∷ ns)) none x m = absurd (omega (arith, none))
+none_in_group pool g (ends.With []) none x m = contained_among [] x m
+none_in_group pool g (ends.With (n ∷ ns)) none x m = absurd (omega (arith, none))
 
 -- the exits of the groups so far, in a loop over their list
 pub groups_more : (pool : List Values) (items : List ExitGroup) (i : ℕ) (x : ExitGroup) → i < length items → x ≡ get_or items i x → all_exits pool (take i items) ++ exits_of pool x ≡ all_exits pool (take (i + 1) items)

@@ -6,9 +6,9 @@ use Rattle.osek_standard.specs.declared.point.Point.{Point}
 use Rattle.osek_standard.proofs.Members.{contained_among, among_contained, among_map, map_among, among_flat_map, flat_map_among}
 use Rattle.flow_exits.specs.declared.exit.Exit.{Exit}
 use Rattle.numbered_sets.specs.{declared.table.NumberedRow.{NumberedRow}, Pools.{Values}, Views.{AreNumbersOf}}
-use Rattle.flow_rules.specs.{declared.group.{NumberEnd.{NumberEnd}, Ends.{Ends}, ExitGroup.{ExitGroup}}, Groups.{holding, exit_at, exits_by, exits_of, all_exits, AreKnownEnds}}
+use Rattle.flow_rules.specs.{declared.group.{NumberEnd.{NumberEnd}, Ends.{Ends}, ExitGroup.{ExitGroup}}, Groups.{with_end, exit_at, exits_by, exits_of, all_exits, AreKnownEnds}}
 use Rattle.flow_rules.specs.declared.group.Ends.TheVariants as ends
-use Rattle.flow_rules.proofs.GrowingPools.{held_known}
+use Rattle.flow_rules.proofs.GrowingPools.{end_known}
 use Rattle.flow_check.specs.Staying.{NumberedEnd, end_at, ends_by, IsIn, IsOut, AreIn, IsSomeOut, HasSetFor}
 
 -- an exit of the group, by its end
@@ -20,27 +20,27 @@ module _ (pool : List Values) (g : ExitGroup) where
   exits_at [] = refl
   exits_at (p ∷ ps) = ap (λ (xs : List Exit). exit_at pool g g.entry p ∷ xs) (exits_at ps)
 
-  exits_with : (c : ℕ) (xs : List NumberEnd) → exits_by pool g (ends.With c xs) ≡ map (exit_by pool g) (ends_by g.entry (ends.With c xs))
-  exits_with c [] = refl
-  exits_with c (x ∷ xs) = ap (λ (ys : List Exit). exit_at pool g (holding g.entry c x.numbers) x.target ∷ ys) (exits_with c xs)
+  exits_with : (xs : List NumberEnd) → exits_by pool g (ends.With xs) ≡ map (exit_by pool g) (ends_by g.entry (ends.With xs))
+  exits_with [] = refl
+  exits_with (x ∷ xs) = ap (λ (ys : List Exit). exit_at pool g (with_end g.entry x) x.target ∷ ys) (exits_with xs)
 
   pub exits_are : (e : Ends) → exits_by pool g e ≡ map (exit_by pool g) (ends_by g.entry e)
   exits_are (ends.At points) = exits_at points
-  exits_are (ends.With c xs) = exits_with c xs
+  exits_are (ends.With xs) = exits_with xs
 
   -- the numbers of an end are those of values
-  pub end_known : (e : Ends) → AreNumbersOf pool g.entry → AreKnownEnds pool g.entry e → (x : NumberedEnd) → Contains (ends_by g.entry e) x → AreNumbersOf pool x.entry
-  end_known (ends.At points) numbers known x m =
+  pub ends_known : (e : Ends) → AreNumbersOf pool g.entry → AreKnownEnds pool g.entry e → (x : NumberedEnd) → Contains (ends_by g.entry e) x → AreNumbersOf pool x.entry
+  ends_known (ends.At points) numbers known x m =
       let at = map_among (λ (p : Point). end_at p g.entry) x points (contained_among (map (λ (p : Point). end_at p g.entry) points) x m) in
       subst (λ (y : NumberedEnd). AreNumbersOf pool y.entry) (sym at.2) numbers
-  end_known (ends.With c xs) numbers known x m =
-      let f = λ (y : NumberEnd). end_at y.target (holding g.entry c y.numbers) in
+  ends_known (ends.With xs) numbers known x m =
+      let f = λ (y : NumberEnd). end_at y.target (with_end g.entry y) in
       let at = map_among f x xs (contained_among (map f xs) x m) in
-      subst (λ (y : NumberedEnd). AreNumbersOf pool y.entry) (sym at.2) (held_known pool g.entry c at.0.numbers known.0 numbers (known.1 at.0 (among_contained xs at.0 at.1)))
+      subst (λ (y : NumberedEnd). AreNumbersOf pool y.entry) (sym at.2) (end_known pool g.entry at.0 numbers (known at.0 (among_contained xs at.0 at.1)))
 
   pub set_for : (e : Ends) → AreKnownEnds pool g.entry e → HasSetFor g.entry e
   set_for (ends.At points) known = tt
-  set_for (ends.With c xs) known = (known.0, λ x m. (known.1 x m).domain)
+  set_for (ends.With xs) known = λ x m. (let end = known x m in record { component = end.component; domain = end.numbers.domain })
 
 -- an exit of groups is one of their ends, and the other way round
 pub record HasEnd (pool : List Values) (groups : List ExitGroup) (x : Exit) : Type 0 where

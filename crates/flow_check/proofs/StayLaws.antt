@@ -18,7 +18,7 @@ use Rattle.flow_rules.specs.{declared.group.ExitGroup.{ExitGroup}, Groups.{all_e
 use Rattle.flow_rules.proofs.{ProperRows.{set_known}, NumberLaws.{member_number, number_member}}
 use Rattle.flow_check.specs.{Rows.{AreRowsFrom, AreExitsOf}, Staying.{IsRowOut, exit_row, NumberedEnd, IsIn, IsOut, AreAllIn, IsSomeGroupOut}, Verdicts.{Leaves}, Flows.{StaysAt}}
 use Rattle.flow_check.proofs.{ExitOutcomes.{some_value}, TableRows.{in_row, row_in, plain_listed, listed_plain, pool_is, row_point}}
-use Rattle.flow_check.proofs.GroupEnds.{HasEnd, exit_end, end_exit, exit_by, end_known}
+use Rattle.flow_check.proofs.GroupEnds.{HasEnd, exit_end, end_exit, exit_by, ends_known}
 
 -- ---- by number
 
@@ -167,4 +167,4 @@ module _ (app : App) (pool : List Values) (rows : List NumberedRow) (from : AreR
       let k = known g out.among in
       let point = target_point app its_table from.written (plain_row pool row) among_rows (all_exits pool groups) of (exit_by pool g x) m in
       leaves app its_table from.written (plain_row pool row) among_rows (all_exits pool groups) of (exit_by pool g x) m
-      (end_out app pool rows from values row listed x point (end_known pool g g.ends k.numbers k.ends x out.out.among) out.out.out)
+      (end_out app pool rows from values row listed x point (ends_known pool g g.ends k.numbers k.ends x out.out.among) out.out.out)

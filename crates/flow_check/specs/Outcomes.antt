@@ -53,7 +53,7 @@ AreOfRow app row x = AreFindings (Arises app (outcome app) row) (Arises app (sta
 -- how many exits have these ends
 abbrev pub end_count : Ends → ℕ
 end_count (ends.At points) = length points
-end_count (ends.With c xs) = length xs
+end_count (ends.With xs) = length xs
 
 -- what is found of exits
 abbrev pub AreOfExits : List Exit → Findings → Type 0

@@ -6,7 +6,7 @@ use Rattle.abstract_state.specs.{Components.{component_count}, Tables.{Sets, set
 use Rattle.flow_exits.specs.declared.exit.Exit.{Exit}
 use Rattle.numbered_sets.specs.declared.{numbered_entry.NumberedEntry.{NumberedEntry}, table.NumberedRow.{NumberedRow}}
 use Rattle.numbered_sets.specs.{NumberedEntries.{numbers_at, IsBelowNumbers}, Within.{HasNumberBeside}, PlainTables.{row_at}}
-use Rattle.flow_rules.specs.{declared.group.{NumberEnd.{NumberEnd}, Ends.{Ends}, ExitGroup.{ExitGroup}}, Groups.{holding}}
+use Rattle.flow_rules.specs.{declared.group.{NumberEnd.{NumberEnd}, Ends.{Ends}, ExitGroup.{ExitGroup}}, Groups.{with_end}}
 use Rattle.flow_rules.specs.declared.group.Ends.TheVariants as ends
 use Rattle.flow_check.specs.Rows.{IsRowWith, HasNoRowWith}
 
@@ -41,12 +41,16 @@ end_at p entry = record { target = p; entry = entry }
 -- the ends of a group of exits
 abbrev pub ends_by : NumberedEntry → Ends → List NumberedEnd
 ends_by entry (ends.At points) = map (λ (p : Point). end_at p entry) points
-ends_by entry (ends.With c xs) = map (λ (x : NumberEnd). end_at x.target (holding entry c x.numbers)) xs
+ends_by entry (ends.With xs) = map (λ (x : NumberEnd). end_at x.target (with_end entry x)) xs
 
--- the component whose values the ends tell apart has a set, of the same domain as theirs
+-- the component of an end has a set, of the same domain as its numbers
+pub record HasSetOf (entry : NumberedEntry) (x : NumberEnd) : Type 0 where
+  pub component : x.component < length entry.sets
+  pub domain : x.numbers.domain ≡ (numbers_at entry x.component).domain
+
 abbrev pub HasSetFor : NumberedEntry → Ends → Type 0
 HasSetFor entry (ends.At points) = ⊤
-HasSetFor entry (ends.With c xs) = (c < length entry.sets) × ((x : NumberEnd) → Contains xs x → x.numbers.domain ≡ (numbers_at entry c).domain)
+HasSetFor entry (ends.With xs) = (x : NumberEnd) → Contains xs x → HasSetOf entry x
 
 -- its point has a row, with all of its numbers
 pub record IsIn (rows : List NumberedRow) (x : NumberedEnd) : Type 0 where

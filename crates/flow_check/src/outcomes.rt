@@ -154,6 +154,6 @@ fn has_end(ends: &Ends) -> bool
 {
     match ends {
         Ends::At(points) => points.len() > 0,
-        Ends::With { ends, .. } => ends.len() > 0,
+        Ends::With(ends) => ends.len() > 0,
     }
 }

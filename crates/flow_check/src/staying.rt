@@ -1,8 +1,9 @@
 //! Whether the exits of a point lead into the rows of a table.
-ghost use Rattle.std.specs.{Prelude.{◌≡◌, ◌<◌, length, Contains, IfOk}, Bool.{OnTrue, OnFalse}};
+ghost use Rattle.std.specs.{Prelude.{◌≡◌, Contains, IfOk, OnOk}, Bool.{OnTrue, OnFalse}};
 ghost use Rattle.flow_rules.specs.declared.group.ExitGroup.{ExitGroup};
 ghost use Rattle.flow_rules.specs.declared.group.Ends.TheVariants as ends_of;
-ghost use Rattle.flow_check.specs.{Rows.{AreInOrder}, Staying.{IsIn, IsOut, AreIn, IsSomeOut, AreAllIn, IsSomeGroupOut, HasSetFor, end_at, ends_by}};
+ghost use Rattle.flow_rules.specs.Groups.{with_end};
+ghost use Rattle.flow_check.specs.{Rows.{AreInOrder}, Staying.{IsIn, IsOut, AreIn, IsSomeOut, AreAllIn, IsSomeGroupOut, HasSetOf, HasSetFor, end_at, ends_by}};
 
 use crate::rows::row_at;
 use abstract_state::Point;
@@ -39,9 +40,9 @@ fn stays(alloc: Global, group: &ExitGroup, rows: &[NumberedRow]) -> Result<bool,
 {
     match &group.ends {
         Ends::At(points) => Ok(all_at(points.as_slice(), &group.entry, rows)),
-        Ends::With { component, ends } => {
+        Ends::With(ends) => {
             let entry = group.entry.copy(alloc)?;
-            all_with(*component, ends.as_slice(), entry, rows)
+            all_with(alloc, ends.as_slice(), entry, rows)
         }
     }
 }
@@ -60,26 +61,45 @@ fn all_at(points: &[Point], entry: &NumberedEntry, rows: &[NumberedRow]) -> bool
     true
 }
 
-// with the numbers of each end of a component alone, at its point
+// with the numbers of each end, at its point
 fn all_with(
-    component: usize,
+    alloc: Global,
     ends: &[NumberEnd],
     entry: NumberedEntry,
     rows: &[NumberedRow],
 ) -> Result<bool, Memory>
-    requires set { HasSetFor entry (ends_of.With component ends.now) }
+    requires set { HasSetFor entry (ends_of.With ends.now) }
     requires order { AreInOrder rows.now }
-    ensures stay { IfOk result (λ stay. OnTrue stay (AreIn rows.now (ends_by entry (ends_of.With component ends.now)))) }
-    ensures out { IfOk result (λ stay. OnFalse stay (IsSomeOut rows.now (ends_by entry (ends_of.With component ends.now)))) }
+    ensures stay { IfOk result (λ stay. OnTrue stay (AreIn rows.now (ends_by entry (ends_of.With ends.now)))) }
+    ensures out { IfOk result (λ stay. OnFalse stay (IsSomeOut rows.now (ends_by entry (ends_of.With ends.now)))) }
 {
     let mut held = entry;
     for end in ends {
-        held.sets.put(component, &end.numbers)?;
-        if !is_in(end.target, &held, rows) {
+        if !is_end_in(alloc, end, &mut held, rows)? {
             return Ok(false);
         }
     }
     Ok(true)
+}
+
+// with the numbers of an end, at its point; the entry is what it was then
+fn is_end_in(
+    alloc: Global,
+    end: &NumberEnd,
+    entry: &mut NumberedEntry,
+    rows: &[NumberedRow],
+) -> Result<bool, Memory>
+    requires set { HasSetOf entry.old end.now }
+    requires order { AreInOrder rows.now }
+    ensures entry { OnOk result (entry.new ≡ entry.old) }
+    ensures within { IfOk result (λ is_in. OnTrue is_in (IsIn rows.now (end_at end.now.target (with_end entry.old end.now)))) }
+    ensures out { IfOk result (λ is_in. OnFalse is_in (IsOut rows.now (end_at end.now.target (with_end entry.old end.now)))) }
+{
+    let own = entry.sets.set(alloc, end.component)?;
+    entry.sets.put(end.component, &end.numbers)?;
+    let is_in = is_in(end.target, entry, rows);
+    entry.sets.put(end.component, &own)?;
+    Ok(is_in)
 }
 
 /// Whether a point has a row, with all numbers of an entry.

@@ -313,5 +313,5 @@ module _ (app : App) (b : BlockNo) (x : TaskNo) (is : (the_block app b.0).kind �
 
   pub all_chains : (r : Runner) → OwnsBlock app r b → AreCasesOf app (runner_point r b) (chain_cases app r (the_block app b.0).next x)
   all_chains (runner.Task t) owns = chain_task_cases app t b owns x is
-  all_chains (runner.Routine k over) owns = goes_on_cases app (runner.Routine k over) b owns (kind.Call (call.Task call.ChainTask x)) (Some status.CallLevel) (λ u ch p y. refl) is
-      (λ s h. at_interrupt (moved_to s (the_block app b.0).next) (caller s.processor) k (routine_calls app s k over b h))
+  all_chains (runner.Routine k z over) owns = goes_on_cases app (runner.Routine k z over) b owns (kind.Call (call.Task call.ChainTask x)) (Some status.CallLevel) (λ u ch p y. refl) is
+      (λ s h. at_interrupt (moved_to s (the_block app b.0).next) (caller s.processor) k (routine_calls app s k z over b h))

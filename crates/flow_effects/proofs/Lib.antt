@@ -1,9 +1,12 @@
 pub mod ListLaws
 pub mod Listed
 pub mod TaskValues
+pub mod EndedSources
 pub mod MoveCases
 pub mod TaskEndCases
 pub mod ReturnCases
+pub mod ResourceTests
+pub mod RoutineResourceCases
 pub mod ResourceCases
 pub mod WaitingCases
 pub mod ChainCases

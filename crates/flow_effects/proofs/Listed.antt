@@ -1,13 +1,25 @@
 -- Lists of cases that are effects, one by one.
 use Rattle.std.proofs.Common.{◌≡◌, Bool, List, [], ◌∷◌, ◌++◌, sym, subst, ◌∙◌, inl, inr, Ok, Err}
-use Rattle.std.specs.{Prelude.{IfOk}, declared.result.Result.{Result}}
-use Rattle.osek_values.specs.declared.{memory.Memory.{Memory}, numbers.BlockNo.{BlockNo}}
-use Rattle.osek_standard.specs.declared.{app.App.{App}, state.State.{State}}
+use Rattle.std.proofs.lemmas.Result.{IfOk-weaker}
+use Rattle.std.specs.{Prelude.{IfOk}, declared.{option.Option.{Option}, result.Result.{Result}}}
+use Rattle.osek_values.specs.declared.{memory.Memory.{Memory}, numbers.{TaskNo.{TaskNo}, BlockNo.{BlockNo}, SourceNo.{SourceNo}}}
+use Rattle.osek_standard.specs.declared.{app.App.{App}, state.State.{State}, point.Point.{Point}}
 use Rattle.osek_standard.proofs.Members.{Among, among_cases, among_left, among_right, contained_among, among_contained}
-use Rattle.abstract_state.specs.Components.{abstract_of}
-use Rattle.flow_model.specs.{declared.{case.EffectCase.{EffectCase}, runner.Runner.{Runner}}, Runners.{Stands, OwnsBlock, runner_point}, Tests.{PassesAll}}
-use Rattle.flow_model.specs.Effects.{HasEffect, IsKnownStay, AreCasesOf}
-use Rattle.flow_model.proofs.Listing.{AreEffects, covers, exact}
+use Rattle.abstract_state.specs.{declared.value.ComponentNo.{ComponentNo}, Components.{abstract_of}}
+use Rattle.flow_model.specs.{declared.{case.EffectCase.{EffectCase}, runner.Runner.{Runner}}, Runners.{Stands, OwnsBlock, IsRoutineKnown, IsRunnerOf, runner_point}, Tests.{PassesAll}}
+use Rattle.flow_model.specs.Effects.{HasEffect, IsKnownStay, HaveKnownStays, AreCasesOf}
+use Rattle.flow_model.specs.declared.runner.Runner.TheVariants as runner
+use Rattle.flow_model.proofs.{Listing.{AreEffects, covers, exact}, Standing.{stands_here}}
+use Rattle.flow_effects.specs.Outs.{AreOutBy, AreCasesWith}
+
+-- who owns a block is a runner of the application
+pub owner_known : (app : App) (r : Runner) (b : BlockNo) → OwnsBlock app r b → IsRunnerOf app r
+owner_known app (runner.Task t) b owns = owns.0
+owner_known app (runner.Routine k z over) b owns = record { known = owns.known; number = owns.number; task = owns.task }
+
+-- and where it is a routine, so is its source, and what it interrupted
+pub routine_known : (app : App) (r : Runner) (k : SourceNo) (z : ComponentNo) (over : Option TaskNo) → IsRunnerOf app r → r ≡ runner.Routine k z over → IsRoutineKnown app k z over
+routine_known app r k z over h e = subst (IsRunnerOf app) e h
 
 module _ (app : App) (r : Runner) (b : BlockNo) where
   -- the case is the effect of each state that passes its conditions
@@ -49,15 +61,39 @@ module _ (app : App) (r : Runner) (b : BlockNo) where
     effects : AreEffects app r b owns cases
     effects x s choice m h passing = (each x (contained_among cases x m)).1 s choice h passing
 
+    stays : HaveKnownStays app cases
+    stays x m = (each x (contained_among cases x m)).0
+
     -- cases that are effects, one of which each state takes
     pub are_cases : ((s : State) → Stands app s r b → IsTaken s cases) → AreCasesOf app (runner_point r b) cases
     are_cases some = record {
       covering = covers app r b owns cases effects (λ s h. let x = some s h in (x.case, among_contained cases x.case x.among, x.passes));
       exact = exact app r b owns cases effects;
-      stays = λ x m. (each x (contained_among cases x m)).0;
+      stays = stays;
     }
+
+    -- and where each state takes one in which these sources are out
+    pub are_cases_with : (outs : List Bool) → ((s : State) → Stands app s r b → AreOutBy app outs (abstract_of app s) → IsTaken s cases) → AreCasesWith app outs (runner_point r b) cases
+    are_cases_with outs some = record {
+      covering = λ entry out s choice at active.
+          (let h = stands_here app s r b owns at.well at.regular at.point in
+          let x = some s h (out (abstract_of app s) at.within) in
+          record { case = x.case; listed = among_contained cases x.case x.among; effect = (each x.case x.among).1 s choice h x.passes });
+      exact = exact app r b owns cases effects;
+      stays = stays;
+    }
+
+-- cases of all states are those of the states in which these sources are out
+pub cases_with : (app : App) (outs : List Bool) (p : Point) (cases : List EffectCase) → AreCasesOf app p cases → AreCasesWith app outs p cases
+cases_with app outs p cases h = record { covering = λ entry out. h.covering entry; exact = h.exact; stays = h.stays }
+
+pub ok_with : (app : App) (outs : List Bool) (p : Point) (result : Result (List EffectCase) Memory) → IfOk result (AreCasesOf app p) → IfOk result (AreCasesWith app outs p)
+ok_with app outs p result cases = IfOk-weaker result (AreCasesOf app p) (AreCasesWith app outs p) (cases_with app outs p) cases
 
 -- an answer that is a list by an equation, if memory sufficed
 pub ok_list : (P : List EffectCase → Type 0) (xs ys : List EffectCase) (result : Result (List EffectCase) Memory) → IfOk result (λ cases. cases ≡ xs) → ys ≡ xs → P ys → IfOk result P
 ok_list P xs ys (Ok cases) is same h = subst P (same ∙ sym is) h
 ok_list P xs ys (Err e) is same h = tt
+
+pub ok_list_with : (app : App) (outs : List Bool) (p : Point) (xs ys : List EffectCase) (result : Result (List EffectCase) Memory) → IfOk result (λ cases. cases ≡ xs) → ys ≡ xs → AreCasesOf app p ys → IfOk result (AreCasesWith app outs p)
+ok_list_with app outs p xs ys result is same h = ok_with app outs p result (ok_list (AreCasesOf app p) xs ys result is same h)

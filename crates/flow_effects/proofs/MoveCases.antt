@@ -7,30 +7,33 @@ use Rattle.osek_values.specs.declared.status.Ask.TheVariants as ask
 use Rattle.osek_standard.specs.declared.{app.App.{App}, block.Kind.{Kind}}
 use Rattle.osek_standard.specs.declared.block.Kind.TheVariants as kind
 use Rattle.flow_effects.specs.CallNames as call
-use Rattle.osek_standard.specs.declared.state.{State.{State}, Processor.{Processor}, Caller.{Caller, TheVariants.{Nobody, Task, Routine}}}
+use Rattle.osek_standard.specs.declared.state.{State.{State}, Source.{Source}, Processor.{Processor}, Caller.{Caller, TheVariants.{Nobody, Task, Routine}}}
+use Rattle.osek_standard.specs.declared.state.Source.TheVariants as source
 use Rattle.osek_standard.specs.declared.state.Processor.TheVariants as processor
 use Rattle.osek_standard.specs.declared.task_state.Place.{Place}
 use Rattle.osek_standard.specs.declared.point.Point.TheVariants as point
-use Rattle.osek_standard.specs.{Apps.{the_block, is_counter, tables}, Validity.{NamesEntries}, States.{here, caller}, Points.{point_of, StandsAt}}
-use Rattle.osek_standard.specs.{Services.{unnoted, answer, counted_by, count_up}, Effects.{effect, noted, place_at, moved, moved_to, called, halted_by, shut_down}}
-use Rattle.osek_standard.specs.{Line.{first_in_line}, Well.{InOwner, IsActive, IsOffsetAt}}
-use Rattle.osek_standard.proofs.{BoolLaws.{either_way}, Members.{Among, contained_among, among_contained}}
-use Rattle.abstract_state.specs.declared.value.{Component.{Component}, PartValue.{PartValue, TheVariants.{OfTask}}, Val.TheVariants.{Live}}
+use Rattle.osek_standard.specs.{Apps.{the_block, is_counter, tables}, Validity.{NamesEntries}, States.{here, caller, place_by, place_of_source, source_state}, Points.{point_of, StandsAt}}
+use Rattle.osek_standard.specs.{Services.{unnoted, answer, counted_by, count_up}, Effects.{Effect, effect, noted, place_at, moved, moved_to, called, halted_by, shut_down}}
+use Rattle.osek_standard.specs.{Line.{first_in_line}, Well.{Well, InOwner, IsActive, IsOffsetAt, IsProcessor, IsRunningAt}}
+use Rattle.osek_standard.proofs.{BoolLaws.{either_way}, EffectKeeps.{effect_keeps}, Members.{Among, contained_among, among_contained}}
+use Rattle.abstract_state.specs.declared.value.{Component.{Component}, PartValue.{PartValue, TheVariants.{OfTask, OfSource}}, Val.TheVariants.{Live}}
+use Rattle.abstract_state.specs.declared.value.SourceVal.TheVariants as source_val
 use Rattle.abstract_state.specs.declared.value.Component.TheVariants as component
-use Rattle.abstract_state.specs.{declared.table.PlainEntry.{PlainEntry}, Components.{component_at, abstract_of, part_of, live_val}}
+use Rattle.abstract_state.specs.{declared.table.PlainEntry.{PlainEntry}, Components.{component_at, abstract_of, part_of, live_val, routine_val, source_value}}
 use Rattle.abstract_state.proofs.Concretes.{some_quiet_at}
 use Rattle.flow_model.specs.declared.case.EffectCase.{EffectCase}
 use Rattle.flow_model.specs.declared.case.Asked.TheVariants as asked
 use Rattle.flow_model.specs.declared.change.Update.TheVariants as update
 use Rattle.flow_model.specs.declared.runner.Runner.{Runner}
 use Rattle.flow_model.specs.declared.runner.Runner.TheVariants as runner
-use Rattle.flow_model.specs.{Tests.{on_task, PassesAll, value_after}, Runners.{Stands, OwnsBlock, runner_point, moving}, Values.{at_block}}
+use Rattle.flow_model.specs.{Tests.{updated, PassesAll, value_after}, Runners.{Stands, OwnsBlock, runner_point, moving}, Values.{restacked_routine}}
 use Rattle.flow_model.specs.{Effects.{AreIn, AreAllAllowed, HasEffect, ShowsEffect, IsKnownStay, HaveKnownStays, AreCasesOf}, Cases.{goes_on}}
-use Rattle.flow_model.proofs.{ChangeLaws.{passes_none}, Standing.{is_active, next_owned, other_owned, owned_here, owned_point, point_there, stands_here}}
+use Rattle.flow_model.proofs.{ChangeLaws.{after_both, passes_none}, SourceTests.{source_value_is}, Standing.{is_active, next_owned, other_owned, owned_here, owned_point, point_there, stands_here}}
 use Rattle.flow_model.proofs.{Instructions.{effect_there}, Moves.{change_here, change_there, moved_parts, moved_stands, went_on}}
 use Rattle.flow_model.proofs.{Calls.{IsCall, asked_none, call_goes_on, call_has, has_effect}, Listing.{covers_by, exact_by, values_allowed}}
 use Rattle.flow_services.proofs.ServiceListing.{operands_of}
-use Rattle.flow_effects.specs.Moves.{stays, passes_by, onward, work_cases, choice_cases, halts}
+use Rattle.flow_effects.specs.Moves.{stays, passes_by, onward, work_cases, choice_cases, all_ended, halts}
+use Rattle.flow_effects.proofs.EndedSources.{IsNoSource, ended_part, halted_out}
 use Rattle.flow_effects.proofs.Listed.{IsCase, are_cases, one_listed}
 use Rattle.flow_services.proofs.Seeing.{task_value}
 use Rattle.flow_effects.proofs.TaskValues.{stands_value}
@@ -68,6 +71,7 @@ unfolding count_up
 count_part app s c (component.Task t) = refl
 count_part app s c (component.Event t i) = refl
 count_part app s c (component.Alarm a) = refl
+count_part app s c (component.Source k) = refl
 
 counted_parts : (app : App) (s : State) (c : Caller) (k : Component) → part_of (counted_by app s c) k ≡ part_of s k
 counted_parts app s Nobody k = refl
@@ -86,19 +90,23 @@ first_parts s None k = refl
 first_parts s (Some t) (component.Task u) = refl
 first_parts s (Some t) (component.Event u j) = refl
 first_parts s (Some t) (component.Alarm a) = refl
+first_parts s (Some t) (component.Source k) = refl
 
--- what a halt does
-halted_parts : (s : State) (p : Processor) (k : Component) → part_of (halted_by s p) k ≡ part_of s k
-halted_parts s processor.Halted k = refl
-halted_parts s processor.Idle (component.Task t) = refl
-halted_parts s processor.Idle (component.Event t j) = refl
-halted_parts s processor.Idle (component.Alarm a) = refl
-halted_parts s (processor.Running u) (component.Task t) = refl
-halted_parts s (processor.Running u) (component.Event t j) = refl
-halted_parts s (processor.Running u) (component.Alarm a) = refl
-halted_parts s (processor.Interrupted l over) (component.Task t) = first_parts s over (component.Task t)
-halted_parts s (processor.Interrupted l over) (component.Event t j) = first_parts s over (component.Event t j)
-halted_parts s (processor.Interrupted l over) (component.Alarm a) = first_parts s over (component.Alarm a)
+-- what a halt does, but for the routines
+halted_parts : (s : State) (p : Processor) (k : Component) → IsNoSource k → part_of (halted_by s p) k ≡ part_of s k
+halted_parts s processor.Halted k other = refl
+halted_parts s processor.Idle (component.Task t) other = refl
+halted_parts s processor.Idle (component.Event t j) other = refl
+halted_parts s processor.Idle (component.Alarm a) other = refl
+halted_parts s processor.Idle (component.Source k) other = absurd other
+halted_parts s (processor.Running u) (component.Task t) other = refl
+halted_parts s (processor.Running u) (component.Event t j) other = refl
+halted_parts s (processor.Running u) (component.Alarm a) other = refl
+halted_parts s (processor.Running u) (component.Source k) other = absurd other
+halted_parts s (processor.Interrupted l over) (component.Task t) other = first_parts s over (component.Task t)
+halted_parts s (processor.Interrupted l over) (component.Event t j) other = first_parts s over (component.Event t j)
+halted_parts s (processor.Interrupted l over) (component.Alarm a) other = first_parts s over (component.Alarm a)
+halted_parts s (processor.Interrupted l over) (component.Source k) other = absurd other
 
 halted_point : (s : State) (p : Processor) → IsActive p → point_of (halted_by s p) ≡ point.Halted
 halted_point s processor.Halted active = absurd active
@@ -106,15 +114,27 @@ halted_point s processor.Idle active = absurd active
 halted_point s (processor.Running t) active = refl
 halted_point s (processor.Interrupted k over) active = refl
 
+-- so does a routine that stays
+routine_stays : (app : App) (k : ℕ) (b : BlockNo) (x : Source) → IsRunningAt app k x → (place_of_source x).block ≡ b → restacked_routine (λ h. h) b (source_value x) ≡ source_value x
+routine_stays app k b source.Out h e = absurd h
+routine_stays app k b (source.In x) h e = ap (λ (c : BlockNo). source_val.In (routine_val c x.held)) (sym e)
+
 -- a runner that stays keeps its value
 stays_put : (app : App) (s : State) (r : Runner) (b : BlockNo) → Stands app s r b → (c : ℕ) → value_after (moving r b) c (abstract_of app s c) ≡ abstract_of app s c
 stays_put app s (runner.Task t) b h c = elim (cases_eq c t.0) [
   | inl same ↦
       (let is : abstract_of app s c ≡ OfTask (Live (live_val b _ _ _)) = ap (abstract_of app s) same ∙ task_value app s t.0 h.runs.has.0 ∙ ap OfTask (stands_value app s t b h) in
-      change_here t.0 (update.Block b) c (abstract_of app s c) same ∙ ap (on_task (at_block b)) is ∙ sym is)
+      change_here t.0 (update.Block b) c (abstract_of app s c) same ∙ ap (updated (update.Block b)) is ∙ sym is)
   | inr other ↦ change_there t.0 (update.Block b) c (abstract_of app s c) other
 ]
-stays_put app s (runner.Routine k over) b h c = refl
+stays_put app s (runner.Routine k z over) b h c = elim (cases_eq c z.0) [
+  | inl same ↦
+      (let has : IsProcessor app s (processor.Interrupted k over) = subst (IsProcessor app s) h.runs.runs h.well.processor in
+      let at : (place_of_source (source_state s k.0)).block ≡ b = sym (ap (λ (p : Processor). (place_by s p).block) h.runs.runs) ∙ h.block in
+      let is : abstract_of app s c ≡ OfSource (source_value (source_state s k.0)) = ap (abstract_of app s) (same ∙ h.runs.number) ∙ source_value_is app s k.0 h.runs.known in
+      change_here z.0 (update.Block b) c (abstract_of app s c) same ∙ ap (updated (update.Block b)) is ∙ ap OfSource (routine_stays app k.0 b (source_state s k.0) has.runs at) ∙ sym is)
+  | inr other ↦ change_there z.0 (update.Block b) c (abstract_of app s c) other
+]
 
 module _ (app : App) (r : Runner) (b : BlockNo) (owns : OwnsBlock app r b) where
   abbrev next : BlockNo
@@ -161,15 +181,20 @@ module _ (app : App) (r : Runner) (b : BlockNo) (owns : OwnsBlock app r b) where
         }),
   )
 
-  pub halt_cases : (the_block app b.0).kind ≡ kind.Call call.ShutdownOs → AreCases (halts r next)
+  pub halt_cases : (the_block app b.0).kind ≡ kind.Call call.ShutdownOs → AreCases (halts app r next)
   halt_cases is = one_case app r b owns _ refl (
     tt,
     λ s choice h passing.
         let after : State = moved_to s next in
         let on = went_on app s r b next h (next_owned app s r b h) in
-        has_effect app _ s choice (shut_down app after) (effect_there app s r b (kind.Call call.ShutdownOs) choice h is) passing
-        (halted_point after after.processor (is_active app after r next on))
-        (λ c lt. halted_parts after after.processor (component_at app c) ∙ moved_parts app s next 0 r b h c lt) refl tt refl,
+        let active = is_active app after r next on in
+        let does : effect app s choice ≡ shut_down app after = effect_there app s r b (kind.Call call.ShutdownOs) choice h is in
+        let well : Well app (halted_by after after.processor) = subst (λ (e : Effect). Well app e.state) does (effect_keeps app s h.well choice) in
+        has_effect app _ s choice (shut_down app after) does passing
+        (halted_point after after.processor active)
+        (λ c lt. ended_part app after (halted_by after after.processor) (halted_out app after after.processor active well) (halted_parts after after.processor) c lt
+        ∙ ap (value_after (all_ended app) c) (moved_parts app s next 0 r b h c lt)
+        ∙ sym (after_both (moving r next) (all_ended app) c (abstract_of app s c))) refl tt refl,
   )
 
   module _ (other : BlockNo) (is : (the_block app b.0).kind ≡ kind.Choice other) where
@@ -198,7 +223,7 @@ module _ (app : App) (r : Runner) (b : BlockNo) (owns : OwnsBlock app r b) where
 
   stands_point : (q : Runner) → StandsAt (runner_point q b) b
   stands_point (runner.Task t) = refl
-  stands_point (runner.Routine k over) = refl
+  stands_point (runner.Routine k z over) = refl
 
   module _ (count : ℕ) (is : (the_block app b.0).kind ≡ kind.Work count) where
     work_effect : (s : State) (choice : Bool) → Stands app s r b → effect app s choice ≡ noted app (if nat_lt ((here s).offset + 1) count then unnoted (moved s (place_at (here s).block ((here s).offset + 1))) ask.No else unnoted (moved_to s next) ask.No)

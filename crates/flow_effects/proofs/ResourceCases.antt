@@ -1,9 +1,9 @@
 -- The cases of GetResource and ReleaseResource are their effects.
-use Rattle.std.proofs.Common.{◌≡◌, ℕ, ◌-◌, ◌^◌, ◌<◌, Bool, true, false, not, ◌||◌, nat_eq, List, [], ◌∷◌, ◌++◌, length, take, refl, sym, ap, subst, ◌∙◌, inl, inr, arith, Some, None, IsTrue, get_or, suc, get_or-set_same, nat_lt}
-use Rattle.std.specs.{Prelude.{◌==◌, if◌then◌else◌}, List.{list_any, range_with_len}, Int.{bit_at}}
-use Rattle.std.proofs.lemmas.{Bool.{cases_Bool, cases_eq, eq-eqb, ne_eqb, lt-ltb, false≢true}, List.Folds.{list_any_at}, Nat.Bits.{bit_at-pow_same, bit_at-pow_other}}
+use Rattle.std.proofs.Common.{◌≡◌, ℕ, ◌-◌, ◌<◌, Bool, true, false, not, ◌||◌, List, [], ◌∷◌, ◌++◌, length, take, refl, sym, ap, subst, ◌∙◌, inl, inr, arith, Some, None, IsTrue, get_or-set_same}
+use Rattle.std.specs.{Prelude.{if◌then◌else◌}, List.{list_any, range_with_len}}
+use Rattle.std.proofs.lemmas.{Bool.{cases_Bool, lt-ltb, false≢true}, List.Folds.{list_any_at}}
 use Rattle.osek_values.specs.{Numbers.{mask, task_no}, declared.limits.TheConstants.{MAX_RESOURCES}}
-use Rattle.osek_values.specs.declared.numbers.{TaskNo.{TaskNo}, BlockNo.{BlockNo}, ResNo.{ResNo}, SourceNo.{SourceNo}}
+use Rattle.osek_values.specs.declared.numbers.{TaskNo.{TaskNo}, BlockNo.{BlockNo}, ResNo.{ResNo}}
 use Rattle.osek_values.specs.declared.status.Status.TheVariants as status
 use Rattle.osek_values.specs.declared.status.{Status.{Status}, Ask.{Ask}}
 use Rattle.osek_values.specs.declared.status.Ask.TheVariants as ask
@@ -11,23 +11,22 @@ use Rattle.osek_values.specs.Bits.{has_bit}
 use Rattle.osek_standard.specs.declared.{app.App.{App}, block.Kind.{Kind}}
 use Rattle.osek_standard.specs.declared.block.Kind.TheVariants as kind
 use Rattle.flow_effects.specs.CallNames as call
-use Rattle.osek_standard.specs.declared.state.{State.{State}, Source.{Source}, Processor.{Processor}, Caller.{Caller, TheVariants.{Task, Routine}}}
+use Rattle.osek_standard.specs.declared.state.{State.{State}, Source.{Source}, Processor.{Processor}, Caller.{Caller, TheVariants.{Task}}}
 use Rattle.osek_standard.specs.declared.task_state.{TaskState.{TaskState}, Activity.{Activity}}
 use Rattle.osek_standard.specs.declared.task_state.Activity.TheVariants as activity
 use Rattle.osek_standard.specs.declared.point.Point.TheVariants as point
 use Rattle.osek_standard.specs.declared.state.Source.TheVariants as source
 use Rattle.osek_standard.specs.declared.state.Processor.TheVariants as processor
 use Rattle.osek_standard.specs.{Apps.{the_block, tables}, Validity.{NamesEntries}, TaskStates.{suspended, further, further_in, is_inside, is_inside_in, is_live_activity, held, holds}}
-use Rattle.osek_standard.specs.{States.{task_state, source_state, held_by_source, caller, place_by, place_in, is_taken}, Levels.{interrupt_ceiling, own_level}, Points.{point_at, point_of}}
-use Rattle.osek_standard.specs.Services.{refused, accepted, with_stack, with_held, is_on_top, get_resource, release_resource, get_resource_isr, release_resource_isr, get_resource_by, release_resource_by}
+use Rattle.osek_standard.specs.{States.{task_state, source_state, held_by_source, place_by, place_in, is_taken}, Points.{point_at, point_of}}
+use Rattle.osek_standard.specs.Services.{refused, accepted, with_stack, with_held, is_on_top, get_resource, release_resource}
 use Rattle.osek_standard.specs.Effects.{place_at, moved_to, called}
 use Rattle.osek_standard.proofs.Members.{among_map, map_among, among_range, range_among}
 use Rattle.osek_standard.specs.Well.{Well, IsProcessor}
 use Rattle.osek_standard.proofs.StackLaws.{IsTakable, held_stack, not_taken, room_on}
 use Rattle.flow_services.proofs.ServiceListing.{operands_of}
-use Rattle.abstract_state.specs.declared.value.{Val.{Val, TheVariants.{Suspended, Live, Waiting}}, PartValue.{PartValue, TheVariants.{OfTask, OfEvent, OfAlarm}}}
+use Rattle.abstract_state.specs.declared.value.{Val.{Val, TheVariants.{Live}}, PartValue.{PartValue, TheVariants.{OfTask}}}
 use Rattle.abstract_state.specs.Components.{component_count, abstract_of, value_in, live_val}
-use Rattle.abstract_state.proofs.ClosedLaws.{ceiling_lowest}
 use Rattle.flow_model.specs.declared.case.{Asked.{Asked}, EffectCase.{EffectCase}}
 use Rattle.flow_model.specs.declared.case.Asked.TheVariants as asked
 use Rattle.flow_model.specs.declared.test.Condition.{Condition}
@@ -36,34 +35,15 @@ use Rattle.flow_model.specs.declared.change.Update.{Update}
 use Rattle.flow_model.specs.declared.change.Update.TheVariants as update
 use Rattle.flow_model.specs.declared.runner.Runner.{Runner}
 use Rattle.flow_model.specs.declared.runner.Runner.TheVariants as runner
-use Rattle.flow_model.specs.{Values.{at_block, restacked, with_top, without_top}, Tests.{passes, on_task, updated, PassesAll, value_after}}
+use Rattle.flow_model.specs.{Values.{with_top, without_top}, Tests.{passes, updated, PassesAll, value_after}}
 use Rattle.flow_model.specs.{Runners.{Stands, OwnsBlock, change, runner_point}, Effects.{HasEffect, AreCasesOf}, Cases.{goes_on, asked_after, asked_for}}
-use Rattle.flow_model.proofs.{ChangeLaws.{each_passes, passes_each}, Standing.{next_owned, task_calls, routine_calls}}
+use Rattle.flow_model.proofs.{ChangeLaws.{each_passes, passes_each}, Standing.{next_owned, task_calls}}
 use Rattle.flow_model.proofs.{Moves.{activity_parts, moved_held, moved_parts, moved_has, went_on}, Calls.{IsCall, KeepsOrLeaves, asked_none, asked_maybe, call_goes_on, call_has, moved_line, same_line}}
 use Rattle.flow_effects.specs.{Conditions.{of_task}, Moves.{goes_on_as, refuses}}
 use Rattle.flow_effects.specs.Resources.{only, nobody_holds, taken_cases, takes, gives_back, isnt_on_top, is_barred, get_cases, release_cases}
 use Rattle.flow_effects.proofs.Listed.{IsEffect, IsCase, AreListed, IsTaken, are_cases, both_listed, more_listed, one_listed, taken_first, taken_then}
 use Rattle.flow_effects.proofs.{TaskValues.{counted, held_value, task_passes, passes_task, test_value, stands_block, stands_value}, TaskEndCases.{changed_over}}
-use Rattle.flow_effects.proofs.MoveCases.{goes_on_cases}
-
--- bit k of the mask of one resource
-only_bit : (r k : ℕ) → has_bit (2 ^ r) k ≡ nat_eq k r
-only_bit r k = elim (cases_eq k r) [
-  | inl same ↦ (let one : bit_at (2 ^ r) k ≡ 1 = ap (bit_at (2 ^ r)) same ∙ bit_at-pow_same r in ap (λ (n : ℕ). n == 1) one ∙ sym (eq-eqb k r same))
-  | inr other ↦ (let none : bit_at (2 ^ r) k ≡ 0 = bit_at-pow_other r k other in ap (λ (n : ℕ). n == 1) none ∙ sym (ne_eqb k r other))
-]
-
-any_only : (r : ResNo) (h : List ResNo) → list_any (λ (q : ResNo). has_bit (only r) q.0) h ≡ holds h r.0
-any_only r [] = refl
-any_only r (q ∷ h) = ap (λ (b : Bool). b || list_any (λ (x : ResNo). has_bit (only r) x.0) h) (only_bit r.0 q.0) ∙ ap (λ (b : Bool). nat_eq q.0 r.0 || b) (any_only r h)
-
--- where some element passes there is one, with its place
-any_at : {X : Type 0} (none : X) (p : X → Bool) (xs : List X) → list_any p xs ≡ true → (u : ℕ) × (u < length xs) × (p (get_or xs u none) ≡ true)
-any_at none p [] e = absurd (cc)
-any_at none p (x ∷ xs) e = elim (cases_Bool (p x)) [
-  | inl is ↦ (0, omega arith, is)
-  | inr other ↦ (let h = any_at none p xs (sym (ap (λ (b : Bool). b || list_any p xs) other) ∙ e) in (suc h.0, omega (arith, h.1), h.2))
-]
+use Rattle.flow_effects.proofs.{MoveCases.{goes_on_cases}, ResourceTests.{any_at, any_only, not-true, or_last, restacked_moved}, RoutineResourceCases.{get_routine_cases, release_routine_cases}}
 
 -- at task level no routine holds a resource
 no_routine_holds : (m : State) → ((k : ℕ) → source_state m k ≡ source.Out) → (res : ℕ) → list_any (λ x. holds (held_by_source x) res) m.sources ≡ false
@@ -85,14 +65,6 @@ stack_block : (a : Activity) (g : List ResNo) → (place_in (with_stack a g)).bl
 stack_block activity.Suspended g = refl
 stack_block (activity.Live x) g = refl
 stack_block (activity.Waiting b) g = refl
-
--- a task that stands at another block with another stack, after a move to that block
-restacked_moved : (f : List ResNo → List ResNo) (n : BlockNo) (v : PartValue) → on_task (restacked f n) (on_task (at_block n) v) ≡ on_task (restacked f n) v
-restacked_moved f n (OfTask Suspended) = refl
-restacked_moved f n (OfTask (Live x)) = refl
-restacked_moved f n (OfTask (Waiting b)) = refl
-restacked_moved f n (OfEvent x) = refl
-restacked_moved f n (OfAlarm x) = refl
 
 -- what a Live task is at a block with a stack
 abbrev with_stack_at : State → ℕ → BlockNo → List ResNo → PartValue
@@ -116,14 +88,6 @@ module _ (app : App) (s : State) (t : TaskNo) (n : BlockNo) (h : Stands app s (r
       abstract_of app (with_held s t.0 g) c ≡ value_after (change t.0 u ∷ []) c (abstract_of app s c)
   held_parts u becomes c lt = activity_parts app s t.0 x there refl u h.runs.has.0
       (ap (λ (v : Val). updated u (OfTask v)) (stands_value app s t n h) ∙ becomes ∙ ap OfTask (sym (stack_value n (task_state s t.0).activity g h.runs.has.1 (stands_block app s t n h)))) c lt
-
-or_last : (a b : Bool) → b ≡ true → (a || b) ≡ true
-or_last true b e = refl
-or_last false b e = e
-
-not-true : (a : Bool) → not a ≡ true → a ≡ false
-not-true true e = absurd (cc)
-not-true false e = refl
 
 module _ (app : App) (t : TaskNo) (b : BlockNo) (owns : OwnsBlock app (runner.Task t) b) (res : ResNo) where
   abbrev r : Runner
@@ -161,7 +125,7 @@ module _ (app : App) (t : TaskNo) (b : BlockNo) (owns : OwnsBlock app (runner.Ta
         point = held_point app (after s) t next (on s h) g;
         parts = λ c lt. held_parts app (after s) t next (on s h) g u becomes c lt
             ∙ ap (value_after (change t.0 u ∷ []) c) (moved_parts app s next 0 r b h c lt)
-            ∙ changed_over t.0 u (update.Block next) moved c (abstract_of app s c);
+            ∙ changed_over t.0 u (update.Block next) c (abstract_of app s c) (λ _. moved (abstract_of app s c));
         asked = ask_is;
         kept = kept;
         line = same_line asks s (with_held (after s) t.0 g) (moved_line s (place_at next 0));
@@ -361,31 +325,12 @@ module _ (app : App) (t : TaskNo) (b : BlockNo) (owns : OwnsBlock app (runner.Ta
       | inr e ↦ (rw e (give_free e))
     ]
 
--- a routine is above each ceiling yet
+-- of a task and of a routine
 module _ (app : App) (b : BlockNo) (res : ResNo) where
-  is_above : (k : SourceNo) → nat_lt (interrupt_ceiling app res.0) (own_level app k.0) ≡ true
-  is_above k = lt-ltb (interrupt_ceiling app res.0) (own_level app k.0) (omega (arith, ceiling_lowest app res.0))
-
-  get_refused : (s : State) (k : SourceNo) → get_resource_isr app s k.0 res ≡ refused s status.Access
-  unfolding get_resource_isr
-  get_refused s k = (let above = or_last (is_taken s res.0) (nat_lt (interrupt_ceiling app res.0) (own_level app k.0)) (is_above k) in rw above refl)
-
-  release_refused : (s : State) (k : SourceNo) → release_resource_isr app s k.0 res ≡ refused s status.Access
-  unfolding release_resource_isr
-  release_refused s k = (let above = is_above k in rw above refl)
-
-  at_interrupt : (s : State) (c : Caller) (k : SourceNo) → c ≡ Routine k → get_resource_by app s c res ≡ refused s status.Access
-  at_interrupt s c k e = ap (λ (d : Caller). get_resource_by app s d res) e ∙ get_refused s k
-
-  at_interrupt_too : (s : State) (c : Caller) (k : SourceNo) → c ≡ Routine k → release_resource_by app s c res ≡ refused s status.Access
-  at_interrupt_too s c k e = ap (λ (d : Caller). release_resource_by app s d res) e ∙ release_refused s k
-
   pub all_gets : (r : Runner) → OwnsBlock app r b → (the_block app b.0).kind ≡ kind.Call (call.Resource call.GetResource res) → AreCasesOf app (runner_point r b) (get_cases app r (the_block app b.0).next res)
   all_gets (runner.Task t) owns is = get_task_cases app t b owns res is
-  all_gets (runner.Routine k over) owns is = goes_on_cases app (runner.Routine k over) b owns (kind.Call (call.Resource call.GetResource res)) (Some status.Access) (λ u ch p x. refl) is
-      (λ s h. at_interrupt (moved_to s (the_block app b.0).next) (caller s.processor) k (routine_calls app s k over b h))
+  all_gets (runner.Routine k z over) owns is = get_routine_cases app k z over b owns res is
 
   pub all_releases : (r : Runner) → OwnsBlock app r b → (the_block app b.0).kind ≡ kind.Call (call.Resource call.ReleaseResource res) → AreCasesOf app (runner_point r b) (release_cases app r (the_block app b.0).next res)
   all_releases (runner.Task t) owns is = release_task_cases app t b owns res is
-  all_releases (runner.Routine k over) owns is = goes_on_cases app (runner.Routine k over) b owns (kind.Call (call.Resource call.ReleaseResource res)) (Some status.Access) (λ u ch p x. refl) is
-      (λ s h. at_interrupt_too (moved_to s (the_block app b.0).next) (caller s.processor) k (routine_calls app s k over b h))
+  all_releases (runner.Routine k z over) owns is = release_routine_cases app k z over b owns res is

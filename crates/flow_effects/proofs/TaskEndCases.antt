@@ -1,5 +1,5 @@
 -- The cases of a task's end, TerminateTask, ChainTask and Schedule are their effects.
-use Rattle.std.proofs.Common.{◌≡◌, ℕ, ◌<◌, Bool, true, false, not, nat_eq, List, [], ◌∷◌, length, refl, sym, ap, ◌∙◌, inl, inr, arith, Some, None, IsTrue}
+use Rattle.std.proofs.Common.{◌≡◌, ℕ, ◌<◌, Bool, true, false, not, nat_eq, List, [], ◌∷◌, length, refl, sym, ap, subst, ◌∙◌, inl, inr, arith, Some, None, IsTrue}
 use Rattle.std.specs.Prelude.{◌==◌}
 use Rattle.std.proofs.lemmas.Bool.{cases_Bool, cases_eq}
 use Rattle.std.specs.declared.option.Option.{Option}
@@ -15,7 +15,8 @@ use Rattle.osek_standard.specs.declared.task_state.Activity.TheVariants as activ
 use Rattle.osek_standard.specs.{Apps.{the_task, the_block}, TaskStates.{further, further_in, is_live, is_live_activity}, States.{task_state, with_task, caller, place_in}}
 use Rattle.osek_standard.specs.{Services.{unnoted, refused, accepted, left, ended, ended_by, holds_some, terminate_task, schedule}, Internal.{inside_as, with_inside}}
 use Rattle.osek_standard.specs.{Effects.{noted, end_task, place_at, standing_at, moved_to, called, asked_under}, Well.{Well}}
-use Rattle.abstract_state.specs.declared.value.{Component.{Component}, PartValue.{PartValue, TheVariants.{OfTask, OfEvent, OfAlarm}}, Val.TheVariants.{Suspended, Live, Waiting}}
+use Rattle.abstract_state.specs.declared.value.ComponentNo.{ComponentNo}
+use Rattle.abstract_state.specs.declared.value.{Component.{Component}, PartValue.{PartValue, TheVariants.{OfTask}}, Val.{Val, TheVariants.{Suspended, Live, Waiting}}}
 use Rattle.abstract_state.specs.declared.value.Component.TheVariants as component
 use Rattle.abstract_state.specs.Components.{component_count, component_at, abstract_of, live_val, part_of, value_in}
 use Rattle.abstract_state.proofs.SettledParts.{inside_point}
@@ -34,6 +35,7 @@ use Rattle.flow_model.proofs.Calls.{IsCall, asked_none, call_goes_on, call_has, 
 use Rattle.flow_model.specs.Effects.{AreCasesOf}
 use Rattle.flow_effects.specs.Conditions.{of_task}
 use Rattle.flow_effects.specs.TaskEnds.{further_test, end_update, end_change, and_further, ends, both_ends, task_end_cases, refused_holding, holding_nothing, terminate_cases, reschedules, schedule_cases}
+use Rattle.flow_services.proofs.Seeing.{task_value}
 use Rattle.flow_effects.proofs.Listed.{IsEffect, IsTaken, are_cases, more_listed, one_listed, taken_then}
 use Rattle.flow_effects.proofs.TaskValues.{further_is, is_further, task_passes, passes_task, some_is, holds_none, none_holds, stands_block}
 use Rattle.flow_effects.proofs.MoveCases.{goes_on_cases, idle_cases}
@@ -43,22 +45,25 @@ pub left_parts : (s : State) (k : Component) → part_of (left s) k ≡ part_of 
 left_parts s (component.Task t) = refl
 left_parts s (component.Event t j) = refl
 left_parts s (component.Alarm a) = refl
+left_parts s (component.Source k) = refl
 
 -- a task that becomes something whatever another change made of it
-pub changed_over : (t : ℕ) (u v : Update) → ((w : PartValue) → updated u (updated v w) ≡ updated u w) → (c : ℕ) (w : PartValue) → value_after (change t u ∷ []) c (value_after (change t v ∷ []) c w) ≡ value_after (change t u ∷ []) c w
-changed_over t u v over c w = elim (cases_eq c t) [
-  | inl same ↦ change_here t u c (value_after (change t v ∷ []) c w) same ∙ ap (updated u) (change_here t v c w same) ∙ over w ∙ sym (change_here t u c w same)
+pub changed_over : (t : ℕ) (u v : Update) (c : ℕ) (w : PartValue) → (c ≡ t → updated u (updated v w) ≡ updated u w) → value_after (change t u ∷ []) c (value_after (change t v ∷ []) c w) ≡ value_after (change t u ∷ []) c w
+changed_over t u v c w over = elim (cases_eq c t) [
+  | inl same ↦ change_here t u c (value_after (change t v ∷ []) c w) same ∙ ap (updated u) (change_here t v c w same) ∙ over same ∙ sym (change_here t u c w same)
   | inr other ↦ change_there t u c (value_after (change t v ∷ []) c w) other ∙ change_there t v c w other ∙ sym (change_there t u c w other)
 ]
 
+-- what is so of each value of a task is so of what it is in a state
+task_over : (app : App) (s : State) (t : TaskNo) → t.0 < length app.tasks → (P : PartValue → Type 0) → ((v : Val) → P (OfTask v)) → (c : ℕ) → c ≡ t.0 → P (abstract_of app s c)
+task_over app s t known P each c same = subst P (sym (ap (abstract_of app s) same ∙ task_value app s t.0 known)) (each (value_in (task_state s t.0).activity))
+
 -- what becomes of a task that ends, whatever a move made of it
-end_over : (app : App) (t : TaskNo) (more : Bool) (n : BlockNo) (v : PartValue) → updated (end_update app t more) (updated (update.Block n) v) ≡ updated (end_update app t more) v
+end_over : (app : App) (t : TaskNo) (more : Bool) (n : BlockNo) (v : Val) → updated (end_update app t more) (updated (update.Block n) (OfTask v)) ≡ updated (end_update app t more) (OfTask v)
 end_over app t false n v = refl
-end_over app t true n (OfTask Suspended) = refl
-end_over app t true n (OfTask (Live x)) = refl
-end_over app t true n (OfTask (Waiting b)) = refl
-end_over app t true n (OfEvent x) = refl
-end_over app t true n (OfAlarm x) = refl
+end_over app t true n Suspended = refl
+end_over app t true n (Live x) = refl
+end_over app t true n (Waiting b) = refl
 
 -- the end of a Live task, by what is left of its activations
 ended_value : (app : App) (t : TaskNo) (more : Bool) (a : Activity) → is_live_activity a ≡ true → (further_in a == 0) ≡ not more → updated (end_update app t more) (OfTask (value_in a)) ≡ OfTask (value_in (ended_by app t.0 a))
@@ -99,12 +104,10 @@ outside_value n activity.Suspended live at = absurd (cc)
 outside_value n (activity.Live x) live at = ap (λ (b : BlockNo). Live (live_val b x.further false x.held)) (sym at)
 outside_value n (activity.Waiting b) live at = absurd (cc)
 
-outside_over : (n : BlockNo) (v : PartValue) → updated (update.Leave n) (updated (update.Block n) v) ≡ updated (update.Leave n) v
-outside_over n (OfTask Suspended) = refl
-outside_over n (OfTask (Live x)) = refl
-outside_over n (OfTask (Waiting b)) = refl
-outside_over n (OfEvent x) = refl
-outside_over n (OfAlarm x) = refl
+outside_over : (n : BlockNo) (v : Val) → updated (update.Leave n) (updated (update.Block n) (OfTask v)) ≡ updated (update.Leave n) (OfTask v)
+outside_over n Suspended = refl
+outside_over n (Live x) = refl
+outside_over n (Waiting b) = refl
 
 module _ (app : App) (t : TaskNo) (b : BlockNo) (owns : OwnsBlock app (runner.Task t) b) where
   abbrev r : Runner
@@ -174,7 +177,8 @@ module _ (app : App) (t : TaskNo) (b : BlockNo) (owns : OwnsBlock app (runner.Ta
       let on = went_on app s r b next h (next_owned app s r b h) in
       ended_parts app (after s) on.well t owns.0 more on.runs.has.1 (ap (λ (n : ℕ). n == 0) (same_further s h) ∙ e) c lt
       ∙ ap (value_after (end_change app t more ∷ []) c) (moved_parts app s next 0 r b h c lt)
-      ∙ changed_over t.0 (end_update app t more) (update.Block next) (end_over app t more next) c (abstract_of app s c)
+      ∙ changed_over t.0 (end_update app t more) (update.Block next) c (abstract_of app s c)
+      (task_over app s t owns.0 (λ (w : PartValue). updated (end_update app t more) (updated (update.Block next) w) ≡ updated (end_update app t more) w) (end_over app t more next) c)
 
   -- a state that holds resources takes the first case, and one that holds none another
   pub either_held : (ys : List EffectCase) (s : State) → (PassesAll app (holding_nothing t) (abstract_of app s) → IsTaken app r b s ys) → IsTaken app r b s (refused_holding t next ∷ ys)
@@ -237,7 +241,8 @@ module _ (app : App) (t : TaskNo) (b : BlockNo) (owns : OwnsBlock app (runner.Ta
         activity_parts app (after s) t.0 (record (task_state (after s) t.0) { activity = inside_as false a }) here refl (update.Leave next) owns.0
         (ap OfTask (outside_value next a on.runs.has.1 (stands_block app (after s) t next on))) c lt
         ∙ ap (value_after (change t.0 (update.Leave next) ∷ []) c) (moved_parts app s next 0 r b h c lt)
-        ∙ changed_over t.0 (update.Leave next) (update.Block next) (outside_over next) c (abstract_of app s c)
+        ∙ changed_over t.0 (update.Leave next) (update.Block next) c (abstract_of app s c)
+        (task_over app s t owns.0 (λ (w : PartValue). updated (update.Leave next) (updated (update.Block next) w) ≡ updated (update.Leave next) w) (outside_over next) c)
 
     schedules : IsEffect app r b (reschedules t next)
     schedules s choice h passing =
@@ -259,9 +264,9 @@ module _ (app : App) (t : TaskNo) (b : BlockNo) (owns : OwnsBlock app (runner.Ta
         (λ s h. either_held (reschedules t next ∷ []) s (λ passing. record { case = reschedules t next; among = inl refl; passes = passing }))
 
 -- a routine's calls of these are refused, and it has no task's end
-module _ (app : App) (k : SourceNo) (over : Option TaskNo) (b : BlockNo) (owns : OwnsBlock app (runner.Routine k over) b) where
+module _ (app : App) (k : SourceNo) (z : ComponentNo) (over : Option TaskNo) (b : BlockNo) (owns : OwnsBlock app (runner.Routine k z over) b) where
   abbrev q : Runner
-  q = runner.Routine k over
+  q = runner.Routine k z over
 
   abbrev onto : BlockNo
   onto = (the_block app b.0).next
@@ -276,28 +281,28 @@ module _ (app : App) (k : SourceNo) (over : Option TaskNo) (b : BlockNo) (owns :
 
   pub terminate_routine_cases : (the_block app b.0).kind ≡ kind.Call (call.Plain call.TerminateTask) → AreCasesOf app (runner_point q b) (terminate_cases app q onto)
   terminate_routine_cases is = goes_on_cases app q b owns (kind.Call (call.Plain call.TerminateTask)) (Some status.CallLevel) (λ u ch p x. refl) is
-      (λ s h. terminate_at_interrupt (moved_to s onto) (caller s.processor) (routine_calls app s k over b h))
+      (λ s h. terminate_at_interrupt (moved_to s onto) (caller s.processor) (routine_calls app s k z over b h))
 
   pub schedule_routine_cases : (the_block app b.0).kind ≡ kind.Call (call.Plain call.Schedule) → AreCasesOf app (runner_point q b) (schedule_cases q onto)
   schedule_routine_cases is = goes_on_cases app q b owns (kind.Call (call.Plain call.Schedule)) (Some status.CallLevel) (λ u ch p x. refl) is
-      (λ s h. schedule_at_interrupt (moved_to s onto) (caller s.processor) (routine_calls app s k over b h))
+      (λ s h. schedule_at_interrupt (moved_to s onto) (caller s.processor) (routine_calls app s k z over b h))
 
   end_at_interrupt : (s : State) (c : Caller) → c ≡ Routine k → end_task app s c ≡ unnoted s ask.No
   end_at_interrupt s c e = ap (end_task app s) e
 
   pub routine_task_end : (the_block app b.0).kind ≡ kind.TaskEnd → AreCasesOf app (runner_point q b) (task_end_cases app q b)
   routine_task_end is = idle_cases app q b owns (λ s choice h.
-      effect_there app s q b kind.TaskEnd choice h is ∙ ap (noted app) (end_at_interrupt s (caller s.processor) (routine_calls app s k over b h)))
+      effect_there app s q b kind.TaskEnd choice h is ∙ ap (noted app) (end_at_interrupt s (caller s.processor) (routine_calls app s k z over b h)))
 
 module _ (app : App) (b : BlockNo) where
   pub all_task_ends : (r : Runner) → OwnsBlock app r b → (the_block app b.0).kind ≡ kind.TaskEnd → AreCasesOf app (runner_point r b) (task_end_cases app r b)
   all_task_ends (runner.Task t) owns is = task_end app t b owns is
-  all_task_ends (runner.Routine k over) owns is = routine_task_end app k over b owns is
+  all_task_ends (runner.Routine k z over) owns is = routine_task_end app k z over b owns is
 
   pub all_terminates : (r : Runner) → OwnsBlock app r b → (the_block app b.0).kind ≡ kind.Call (call.Plain call.TerminateTask) → AreCasesOf app (runner_point r b) (terminate_cases app r (the_block app b.0).next)
   all_terminates (runner.Task t) owns is = terminate_task_cases app t b owns is
-  all_terminates (runner.Routine k over) owns is = terminate_routine_cases app k over b owns is
+  all_terminates (runner.Routine k z over) owns is = terminate_routine_cases app k z over b owns is
 
   pub all_schedules : (r : Runner) → OwnsBlock app r b → (the_block app b.0).kind ≡ kind.Call (call.Plain call.Schedule) → AreCasesOf app (runner_point r b) (schedule_cases r (the_block app b.0).next)
   all_schedules (runner.Task t) owns is = schedule_task_cases app t b owns is
-  all_schedules (runner.Routine k over) owns is = schedule_routine_cases app k over b owns is
+  all_schedules (runner.Routine k z over) owns is = schedule_routine_cases app k z over b owns is

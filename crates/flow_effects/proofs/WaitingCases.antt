@@ -14,6 +14,7 @@ use Rattle.osek_standard.specs.declared.task_state.Activity.TheVariants as activ
 use Rattle.osek_standard.specs.{Apps.{the_task, the_block, is_extended, no_task}, States.{task_state, with_task, caller, here}}
 use Rattle.osek_standard.specs.{Services.{Answer, answer, refused, accepted, left, share, holds_some, wait_event}, Effects.{effect, noted, goes_on_unless_left, moved_to}}
 use Rattle.osek_standard.proofs.Members.{Among, among_map, map_among}
+use Rattle.abstract_state.specs.declared.value.ComponentNo.{ComponentNo}
 use Rattle.abstract_state.specs.declared.value.{Val.TheVariants.{Waiting}, PartValue.TheVariants.{OfTask, OfEvent}}
 use Rattle.abstract_state.specs.declared.value.Component.TheVariants as component
 use Rattle.abstract_state.specs.{Components.{component_at, component_count, component_number, abstract_of, part_of}, Domains.{HasMasks}}
@@ -230,7 +231,7 @@ module _ (app : App) (t : TaskNo) (b : BlockNo) (owns : OwnsBlock app (runner.Ta
 
 -- a routine's call is refused
 module _ (app : App) (b : BlockNo) (m : Mask) (is : (the_block app b.0).kind ≡ kind.Call (call.Mask call.WaitEvent m)) where
-  module _ (k : SourceNo) (over : Option TaskNo) (owns : OwnsBlock app (runner.Routine k over) b) where
+  module _ (k : SourceNo) (z : ComponentNo) (over : Option TaskNo) (owns : OwnsBlock app (runner.Routine k z over) b) where
     abbrev onto : BlockNo
     onto = (the_block app b.0).next
 
@@ -238,17 +239,17 @@ module _ (app : App) (b : BlockNo) (m : Mask) (is : (the_block app b.0).kind ≡
     unfolding wait_event
     at_interrupt s c e = ap (λ (d : Caller). wait_event app s d m.0) e
 
-    wait_routine_cases : AreCasesOf app (runner_point (runner.Routine k over) b) (refuses (runner.Routine k over) onto status.CallLevel)
-    wait_routine_cases = one_case app (runner.Routine k over) b owns (goes_on (runner.Routine k over) onto [] asked.No (Some status.CallLevel)) refl (
+    wait_routine_cases : AreCasesOf app (runner_point (runner.Routine k z over) b) (refuses (runner.Routine k z over) onto status.CallLevel)
+    wait_routine_cases = one_case app (runner.Routine k z over) b owns (goes_on (runner.Routine k z over) onto [] asked.No (Some status.CallLevel)) refl (
       tt,
       λ s choice h passing.
-          has_effect app (goes_on (runner.Routine k over) onto [] asked.No (Some status.CallLevel)) s choice (noted app (answer (moved_to s onto) (Some status.CallLevel) None ask.No))
-          (effect_there app s (runner.Routine k over) b (kind.Call (call.Mask call.WaitEvent m)) choice h is
-          ∙ ap (λ (y : Answer). noted app (goes_on_unless_left onto y)) (at_interrupt s (caller s.processor) (routine_calls app s k over b h)))
-          passing (point_there app (moved_to s onto) (runner.Routine k over) onto (went_on app s (runner.Routine k over) b onto h (next_owned app s (runner.Routine k over) b h)))
-          (λ c lt. moved_parts app s onto 0 (runner.Routine k over) b h c lt) refl tt refl,
+          has_effect app (goes_on (runner.Routine k z over) onto [] asked.No (Some status.CallLevel)) s choice (noted app (answer (moved_to s onto) (Some status.CallLevel) None ask.No))
+          (effect_there app s (runner.Routine k z over) b (kind.Call (call.Mask call.WaitEvent m)) choice h is
+          ∙ ap (λ (y : Answer). noted app (goes_on_unless_left onto y)) (at_interrupt s (caller s.processor) (routine_calls app s k z over b h)))
+          passing (point_there app (moved_to s onto) (runner.Routine k z over) onto (went_on app s (runner.Routine k z over) b onto h (next_owned app s (runner.Routine k z over) b h)))
+          (λ c lt. moved_parts app s onto 0 (runner.Routine k z over) b h c lt) refl tt refl,
     )
 
   pub all_waits : (r : Runner) → HasMasks app → OwnsBlock app r b → AreCasesOf app (runner_point r b) (wait_cases app r b (the_block app b.0).next m)
   all_waits (runner.Task t) few owns = wait_task_cases app t b owns m is few
-  all_waits (runner.Routine k over) few owns = wait_routine_cases k over owns
+  all_waits (runner.Routine k z over) few owns = wait_routine_cases k z over owns

@@ -3,5 +3,7 @@ pub mod Conditions
 pub mod Moves
 pub mod TaskEnds
 pub mod Resources
+pub mod RoutineResources
 pub mod Waiting
+pub mod Outs
 pub mod Returns

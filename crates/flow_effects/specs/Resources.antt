@@ -11,7 +11,7 @@ use Rattle.flow_model.specs.declared.change.Update.TheVariants as update
 use Rattle.flow_model.specs.declared.runner.Runner.{Runner}
 use Rattle.flow_model.specs.declared.runner.Runner.TheVariants as runner
 use Rattle.flow_model.specs.Cases.{goes_on, asked_after}
-use Rattle.flow_effects.specs.{Conditions.{of_task}, Moves.{goes_on_as, refuses}}
+use Rattle.flow_effects.specs.{Conditions.{of_task}, Moves.{goes_on_as, refuses}, RoutineResources.{routine_gets, routine_gives}}
 
 -- the mask of one resource
 abbrev pub only : ResNo → ℕ
@@ -41,14 +41,13 @@ isnt_on_top t n r = goes_on (runner.Task t) n (of_task t (test.NotOnTop r) ∷ [
 abbrev pub is_barred : App → TaskNo → ResNo → Bool
 is_barred app t r = nat_lt (ceiling app r.0) (base_priority app t.0)
 
--- a routine is above each resource's interrupt ceiling yet: ACCESS
 abbrev pub get_cases : App → Runner → BlockNo → ResNo → List EffectCase
 get_cases app (runner.Task t) n r =
     if is_barred app t r then refuses (runner.Task t) n status.Access
     else taken_cases t n r (length app.tasks) ++ takes t n r (length app.tasks) ∷ []
-get_cases app (runner.Routine k over) n r = refuses (runner.Routine k over) n status.Access
+get_cases app (runner.Routine k z over) n r = routine_gets app (runner.Routine k z over) n r k
 
 abbrev pub release_cases : App → Runner → BlockNo → ResNo → List EffectCase
 release_cases app (runner.Task t) n r =
     if is_barred app t r then refuses (runner.Task t) n status.Access else gives_back app t n r ∷ isnt_on_top t n r ∷ []
-release_cases app (runner.Routine k over) n r = refuses (runner.Routine k over) n status.Access
+release_cases app (runner.Routine k z over) n r = routine_gives app (runner.Routine k z over) n r k

@@ -44,7 +44,7 @@ both_ends app t conditions = ends app t conditions false ∷ ends app t conditio
 
 abbrev pub task_end_cases : App → Runner → BlockNo → List EffectCase
 task_end_cases app (runner.Task t) b = both_ends app t []
-task_end_cases app (runner.Routine k over) b = stays (runner.Routine k over) b ∷ []
+task_end_cases app (runner.Routine k z over) b = stays (runner.Routine k z over) b ∷ []
 
 -- RESOURCE where the task holds one
 abbrev pub refused_holding : TaskNo → BlockNo → EffectCase
@@ -55,7 +55,7 @@ holding_nothing t = of_task t test.HoldsNothing ∷ []
 
 abbrev pub terminate_cases : App → Runner → BlockNo → List EffectCase
 terminate_cases app (runner.Task t) n = refused_holding t n ∷ both_ends app t (holding_nothing t)
-terminate_cases app (runner.Routine k over) n = refuses (runner.Routine k over) n status.CallLevel
+terminate_cases app (runner.Routine k z over) n = refuses (runner.Routine k z over) n status.CallLevel
 
 -- the task ends, and then the other one begins, which may be the same: it is put last
 abbrev pub chains_start : App → TaskNo → TaskNo → List Condition → Bool → EffectCase
@@ -94,7 +94,7 @@ chain_to_another app t n x = refused_holding t n ∷ limited app t n x ∷ start
 
 abbrev pub chain_cases : App → Runner → BlockNo → TaskNo → List EffectCase
 chain_cases app (runner.Task t) n x = if x.0 == t.0 then chain_to_itself app t n x else chain_to_another app t n x
-chain_cases app (runner.Routine k over) n x = refuses (runner.Routine k over) n status.CallLevel
+chain_cases app (runner.Routine k z over) n x = refuses (runner.Routine k z over) n status.CallLevel
 
 -- the task gives its INTERNAL resource back, and asks, also where it is non-preemptive
 abbrev pub reschedules : TaskNo → BlockNo → EffectCase
@@ -102,4 +102,4 @@ reschedules t n = goes_on_as t n (holding_nothing t) (update.Leave n) (asked.May
 
 abbrev pub schedule_cases : Runner → BlockNo → List EffectCase
 schedule_cases (runner.Task t) n = refused_holding t n ∷ reschedules t n ∷ []
-schedule_cases (runner.Routine k over) n = refuses (runner.Routine k over) n status.CallLevel
+schedule_cases (runner.Routine k z over) n = refuses (runner.Routine k z over) n status.CallLevel

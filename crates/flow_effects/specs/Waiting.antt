@@ -42,4 +42,4 @@ extended_cases app t b n m = refused_holding t n ∷ waits app t b (awaited_even
 abbrev pub wait_cases : App → Runner → BlockNo → BlockNo → Mask → List EffectCase
 wait_cases app (runner.Task t) b n m =
     if is_extended app t.0 then extended_cases app t b n m else refuses (runner.Task t) n status.Access
-wait_cases app (runner.Routine k over) b n m = refuses (runner.Routine k over) n status.CallLevel
+wait_cases app (runner.Routine k z over) b n m = refuses (runner.Routine k z over) n status.CallLevel

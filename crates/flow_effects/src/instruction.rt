@@ -6,6 +6,7 @@ ghost use Rattle.abstract_state.specs.{declared.table.PlainEntry.{PlainEntry}, D
 ghost use Rattle.flow_model.specs.{Effects.{AreAllAllowed, CoverEffects, AreExactEffects, HaveKnownStays, AreCasesOf}, Runners.{runner_point, OwnsBlock}};
 ghost use Rattle.flow_services.specs.Services.{is_service, is_service_call};
 ghost use Rattle.flow_effects.specs.CallNames as call;
+ghost use Rattle.flow_effects.specs.Outs.{AreOutIn, AreCasesWith};
 
 use crate::moves::{choice_cases, halts, onward, work_cases};
 use crate::resources::{get_cases, release_cases};
@@ -128,7 +129,7 @@ fn call_cases(
         Call::Mask(service, mask) => mask_cases(alloc, app, runner, block, service, mask),
         Call::SetEvent(_, _) | Call::Alarm(_, _) => Ok(Seq::new(alloc)),
         Call::Arm(_, _, _, _) | Call::Lock(_) => Ok(Seq::new(alloc)),
-        Call::ShutdownOs => halts(alloc, runner, app.block(block).next),
+        Call::ShutdownOs => halts(alloc, app, runner, app.block(block).next),
     }
 }
 
@@ -138,10 +139,11 @@ fn instruction_cases(
     app: &App,
     runner: Runner,
     block: BlockNo,
+    outs: &[bool],
 ) -> Result<Seq<EffectCase>, Memory>
     requires owns { OwnsBlock app.now runner block }
     requires unserved { is_service (the_block app.now block.0).kind ≡ false }
-    ensures { IfOk result (AreCasesOf app.now (runner_point runner block)) }
+    ensures { IfOk result (AreCasesWith app.now outs.now (runner_point runner block)) }
 {
     let next = app.block(block).next;
     match app.block(block).kind {
@@ -150,7 +152,7 @@ fn instruction_cases(
         Kind::Loop => onward(alloc, runner, next),
         Kind::Call(call) => call_cases(alloc, app, runner, block, call),
         Kind::TaskEnd => task_end_cases(alloc, app, runner, block),
-        Kind::IsrEnd => return_cases(alloc, app, runner, block),
+        Kind::IsrEnd => return_cases(alloc, app, runner, block, outs),
         Kind::CountUp => onward(alloc, runner, next),
         Kind::Expire(_) => Ok(Seq::new(alloc)),
     }
@@ -162,29 +164,38 @@ fn block_cases(
     app: &App,
     runner: Runner,
     block: BlockNo,
+    outs: &[bool],
 ) -> Result<Seq<EffectCase>, Memory>
     requires { OwnsBlock app.now runner block }
-    ensures { IfOk result (AreCasesOf app.now (runner_point runner block)) }
+    ensures { IfOk result (AreCasesWith app.now outs.now (runner_point runner block)) }
 {
     if is_service(app.block(block).kind) {
         return service_cases(alloc, app, runner, block);
     }
-    instruction_cases(alloc, app, runner, block)
+    instruction_cases(alloc, app, runner, block, outs)
 }
 
 /// The cases of the effect of the instruction at a point: which values of the components it takes, and what it makes of
-/// them. Where nobody executes there is no case.
-pub fn effect_cases(alloc: Global, app: &App, point: Point) -> Result<Seq<EffectCase>, Memory>
+/// them. Where nobody executes there is no case. The sources for which `outs` is true are known to be out: no case has the
+/// routine of one go on. Of sources past its end nothing is known.
+pub fn effect_cases(
+    alloc: Global,
+    app: &App,
+    point: Point,
+    outs: &[bool],
+) -> Result<Seq<EffectCase>, Memory>
     requires point { IsPoint app.now point }
-    ensures covering { IfOk result (λ cases. (entry : PlainEntry) → domains entry ≡ domains_of app.now → CoverEffects app.now point entry cases) }
+    ensures covering { IfOk result (λ cases. (entry : PlainEntry) → domains entry ≡ domains_of app.now → AreOutIn app.now outs.now entry → CoverEffects app.now point entry cases) }
     ensures exact { IfOk result (λ cases. (entry : PlainEntry) → domains entry ≡ domains_of app.now → AreAllAllowed app.now point entry → AreExactEffects app.now point entry cases) }
     ensures stays { IfOk result (HaveKnownStays app.now) }
 {
     match point {
         Point::Halted | Point::Idle => Ok(Seq::new(alloc)),
-        Point::Task(block) => block_cases(alloc, app, Runner::Task(task_of(app, block)), block),
+        Point::Task(block) => {
+            block_cases(alloc, app, Runner::Task(task_of(app, block)), block, outs)
+        }
         Point::Routine { block, over } => {
-            block_cases(alloc, app, routine_of(app, block, over), block)
+            block_cases(alloc, app, routine_of(app, block, over), block, outs)
         }
     }
 }

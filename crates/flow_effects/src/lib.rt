@@ -6,6 +6,7 @@ mod instruction;
 mod moves;
 mod resources;
 mod returns;
+mod routine_resources;
 mod task_ends;
 mod waiting;
 

@@ -1,11 +1,12 @@
 //! Instructions that do nothing but go on.
-ghost use Rattle.std.specs.Prelude.{◌≡◌, IfOk};
-ghost use Rattle.flow_effects.specs.Moves.{stays, passes_by, onward, refuses, goes_on_as, work_cases, choice_cases, halts};
+ghost use Rattle.std.specs.Prelude.{◌≡◌, ◌++◌, IfOk, OnOk};
+ghost use Rattle.flow_effects.specs.Moves.{stays, passes_by, onward, refuses, accepts, goes_on_as, work_cases, choice_cases, all_ended, halts};
 
-use abstract_state::{ComponentNo, Point};
+use abstract_state::{Component, PartValue, Point, SourceVal, component_number};
 use flow_model::{Asked, Change, Condition, EffectCase, Leaving, Runner, Update};
 use flow_services::one;
-use osek_values::{BlockNo, Memory, Seq, Status, TaskNo};
+use osek_standard::App;
+use osek_values::{BlockNo, Memory, Seq, SourceNo, Status, TaskNo};
 use std::alloc::Global;
 
 /// The case in which the runner stays at its block, and nothing changes.
@@ -47,7 +48,30 @@ pub fn refuses(
     )
 }
 
-/// A task goes on to a block, and its value is another there: its call is accepted.
+/// A runner goes on to a block, and its value is another there: its call is accepted.
+pub fn accepts(
+    alloc: Global,
+    runner: Runner,
+    next: BlockNo,
+    conditions: Seq<Condition>,
+    update: Update,
+    asked: Asked,
+) -> Result<EffectCase, Memory>
+    ensures { IfOk result (λ case. case ≡ accepts runner next conditions update asked) }
+{
+    let mut changes = Seq::new(alloc);
+    changes.push(Change {
+        component: runner.component(),
+        update,
+    })?;
+    Ok(EffectCase {
+        conditions,
+        changes,
+        leaving: Leaving::at(runner.at(next), asked, Some(Status::Ok)),
+    })
+}
+
+/// And so does a task.
 pub fn goes_on_as(
     alloc: Global,
     task: TaskNo,
@@ -58,17 +82,7 @@ pub fn goes_on_as(
 ) -> Result<EffectCase, Memory>
     ensures { IfOk result (λ case. case ≡ goes_on_as task next conditions update asked) }
 {
-    let mut changes = Seq::new(alloc);
-    changes.push(Change {
-        component: ComponentNo(task.0 as u16),
-        update,
-    })?;
-    let point = Runner::Task(task).at(next);
-    Ok(EffectCase {
-        conditions,
-        changes,
-        leaving: Leaving::at(point, asked, Some(Status::Ok)),
-    })
+    accepts(alloc, Runner::Task(task), next, conditions, update, asked)
 }
 
 /// So many instructions of work: one of them is done, or the last.
@@ -104,15 +118,35 @@ pub fn choice_cases(
     Ok(cases)
 }
 
-/// ShutdownOS: the caller stands at its next block, and the kernel halts.
-pub fn halts(alloc: Global, runner: Runner, next: BlockNo) -> Result<Seq<EffectCase>, Memory>
-    ensures { IfOk result (λ cases. cases ≡ halts runner next) }
+/// Adds that no routine is left.
+fn add_all_ended(app: &App, changes: &mut Seq<Change>) -> Result<(), Memory>
+    ensures { OnOk result (changes.new ≡ changes.old ++ all_ended app.now) }
 {
+    for source in 0..app.counters.len() + app.isrs.len() {
+        changes.push(Change {
+            component: component_number(app, Component::Source(SourceNo(source as u8))),
+            update: Update::Set(PartValue::OfSource(SourceVal::Out)),
+        })?;
+    }
+    Ok(())
+}
+
+/// ShutdownOS: the caller stands at its next block, all routines are over, and the kernel halts.
+pub fn halts(
+    alloc: Global,
+    app: &App,
+    runner: Runner,
+    next: BlockNo,
+) -> Result<Seq<EffectCase>, Memory>
+    ensures { IfOk result (λ cases. cases ≡ halts app.now runner next) }
+{
+    let mut changes = runner.moving(alloc, next)?;
+    add_all_ended(app, &mut changes)?;
     one(
         alloc,
         EffectCase {
             conditions: Seq::new(alloc),
-            changes: runner.moving(alloc, next)?,
+            changes,
             leaving: Leaving::at(Point::Halted, Asked::No, None),
         },
     )

@@ -1,10 +1,11 @@
 //! GetResource and ReleaseResource.
 ghost use Rattle.std.specs.Prelude.{◌≡◌, ◌<◌, ◌≤◌, [], ◌∷◌, ◌++◌, length, OnOk, IfOk};
-ghost use Rattle.flow_model.specs.Runners.{IsKnown};
+ghost use Rattle.flow_model.specs.Runners.{IsRunnerOf};
 ghost use Rattle.flow_effects.specs.Resources.{only, nobody_holds, taken_cases, takes, gives_back, isnt_on_top, is_barred, get_cases, release_cases};
 
 use crate::conditions::{if_task, of_task};
 use crate::moves::{goes_on_as, refuses};
+use crate::routine_resources::{routine_gets, routine_gives};
 use flow_model::{Asked, Condition, EffectCase, Runner, Test, Update};
 use flow_services::one;
 use osek_standard::App;
@@ -13,7 +14,7 @@ use osek_values::{BlockNo, Mask, Memory, ResNo, Seq, Status, TaskNo};
 use std::alloc::Global;
 
 /// The mask of one resource.
-fn only(resource: ResNo) -> Mask
+pub fn only(resource: ResNo) -> Mask
     requires { resource.0 < 64 }
     ensures { result.0 ≡ only resource }
 {
@@ -113,7 +114,7 @@ pub fn get_cases(
     next: BlockNo,
     resource: ResNo,
 ) -> Result<Seq<EffectCase>, Memory>
-    requires known { IsKnown app.now runner }
+    requires known { IsRunnerOf app.now runner }
     requires resource { resource.0 < length app.now.resources }
     ensures { IfOk result (λ cases. cases ≡ get_cases app.now runner next resource) }
 {
@@ -124,7 +125,9 @@ pub fn get_cases(
             }
             free_cases(alloc, app, task, next, resource)
         }
-        Runner::Routine { .. } => refuses(alloc, runner, next, Status::Access),
+        Runner::Routine { source, .. } => {
+            routine_gets(alloc, app, runner, source, next, resource)
+        }
     }
 }
 
@@ -166,7 +169,7 @@ pub fn release_cases(
     next: BlockNo,
     resource: ResNo,
 ) -> Result<Seq<EffectCase>, Memory>
-    requires known { IsKnown app.now runner }
+    requires known { IsRunnerOf app.now runner }
     requires resource { resource.0 < length app.now.resources }
     ensures { IfOk result (λ cases. cases ≡ release_cases app.now runner next resource) }
 {
@@ -179,6 +182,8 @@ pub fn release_cases(
             cases.push(isnt_on_top(alloc, task, next, resource)?)?;
             Ok(cases)
         }
-        Runner::Routine { .. } => refuses(alloc, runner, next, Status::Access),
+        Runner::Routine { source, .. } => {
+            routine_gives(alloc, app, runner, source, next, resource)
+        }
     }
 }

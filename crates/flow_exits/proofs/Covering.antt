@@ -1,19 +1,19 @@
 -- The exits of a point are where its steps end, and each is one of some step.
 use Rattle.std.proofs.Common.{◌≡◌, ℕ, Bool, List, [], map, IsTrue, refl, sym, ap, subst, ◌∙◌, inl, inr, arith, Some, None}
-use Rattle.std.specs.{declared.option.Option.{Option}, List.{range_with_len}}
+use Rattle.std.specs.{declared.option.Option.{Option}}
 use Rattle.std.proofs.lemmas.Bool.{cases_Bool}
-use Rattle.osek_values.specs.{declared.{event.Event.{Event, TheVariants.{Run, Irq, Tick}}, numbers.{TaskNo.{TaskNo}, BlockNo.{BlockNo}}, status.Status.{Status}}, Numbers.{task_no}}
+use Rattle.osek_values.specs.{declared.{event.Event.{Event, TheVariants.{Run, Irq, Tick}}, numbers.{TaskNo.{TaskNo}, BlockNo.{BlockNo}, SourceNo.{SourceNo}}, status.Status.{Status}}, Numbers.{source_no, task_no}}
 use Rattle.osek_standard.specs.declared.{app.App.{App}, state.State.{State}, point.Point.{Point}}
 use Rattle.osek_standard.specs.declared.point.Point.TheVariants as point
-use Rattle.osek_standard.specs.{Apps.{source_count, the_block}, Points.{point_of, IsPoint}, Dispatch.{Outcome, outcome}, Effects.{effect}}
+use Rattle.osek_standard.specs.{Apps.{the_block}, Points.{point_of, IsPoint}, Dispatch.{Outcome, outcome}, Effects.{effect}}
 use Rattle.osek_standard.specs.{Outcomes.{Mark, Silent, Arrived, Did, shows, IsInstruction}, Well.{Well, IsActive}}
 use Rattle.abstract_state.specs.{declared.{value.PartValue.{PartValue}, table.PlainEntry.{PlainEntry}}, Components.{abstract_of}, Concrete.{HasParts}, Tables.{set_at, is_member}}
 use Rattle.abstract_state.proofs.MarkLaws.{shown_instruction, shown_arrival}
 use Rattle.flow_model.specs.{declared.{case.{Decision.{Decision}, EffectCase.{EffectCase}}, rule.Rule.{Rule}}, Effects.{AreIn, AreAllAllowed, IsAt, IsKnownStay, HasEffect}}
 use Rattle.flow_model.specs.{Rules.{mark_by, mark_of}, Runners.{IsNobodys}, Tests.{value_after, values_after}}
 use Rattle.flow_model.proofs.{Instructions.{instruction_by, shown_so}, Standing.{active_there, active_within}}
-use Rattle.flow_exits.specs.{Deciding.{HasValues, IsKernelDecision}, Arrivals.{arrival_rule, MayBegin, IsArrivalRule, AreArrivals}}
-use Rattle.flow_exits.proofs.Arriving.{all_arrivals, none_alone, task_alone, arrival_covered, arrival_shown}
+use Rattle.flow_exits.specs.{Deciding.{HasValues, IsKernelDecision}, Arrivals.{arrival_rule, may_begin_over, MayBegin, IsArrivalRule, AreArrivals}}
+use Rattle.flow_exits.proofs.Arriving.{idle_arrivals, routine_arrivals, task_arrivals, arrival_covered, arrival_shown}
 use Rattle.flow_exits.specs.{declared.exit.Exit.{Exit}, Exits.{exit_mark, IsBySome, CoverSteps, CoverInstructions, IsExact, AreExact}}
 use Rattle.flow_exits.specs.Leaving.{HasDecided, IsOfEffects, IsArrivalExit, AreExits}
 use Rattle.abstract_state.specs.Choices.{IsFirstIfThere}
@@ -30,27 +30,35 @@ record HasArrivals (app : App) (p : Point) : Type 0 where
   are : AreArrivals app p rules
 
 module _ (app : App) where
-  none_begin : (p : Point) → ((over : Option TaskNo) → MayBegin app p over → ⊥) → HasArrivals app p
+  none_begin : (p : Point) → ((over : Option TaskNo) (running : Option SourceNo) (k : ℕ) → MayBegin app p over running k → ⊥) → HasArrivals app p
   none_begin p never = record {
     rules = [];
-    are = record { each = λ rule m. absurd (omega (arith, m.1)); some = λ k over lt may. absurd (never over may) };
+    are = record { each = λ rule m. absurd (omega (arith, m.1)); some = λ k over running lt may. absurd (never over running k may) };
   }
 
-  begin_over : (p : Point) (over : Option TaskNo) → MayBegin app p over → ((o : Option TaskNo) → MayBegin app p o → o ≡ over) → HasArrivals app p
-  begin_over p over may alone = record { rules = map (arrival_rule app over) (range_with_len 0 (source_count app)); are = all_arrivals app p over may alone }
+  begin_over : (p : Point) (over : Option TaskNo) (running : Option SourceNo) → AreArrivals app p (map (arrival_rule app over running) (may_begin_over app over running)) → HasArrivals app p
+  begin_over p over running are = record { rules = map (arrival_rule app over running) (may_begin_over app over running); are = are }
 
-  locked_out : (b : BlockNo) (over : Option TaskNo) → IsTrue (the_block app b.0).locked → MayBegin app (point.Task b) over → ⊥
-  locked_out b None locked may = may
-  locked_out b (Some t) locked may = (let free = may.0 in cc)
+  locked_task : (b : BlockNo) (over : Option TaskNo) (running : Option SourceNo) (k : ℕ) → IsTrue (the_block app b.0).locked → MayBegin app (point.Task b) over running k → ⊥
+  locked_task b None running k locked may = may
+  locked_task b (Some t) None k locked may = (let free = may.free in cc)
+  locked_task b (Some t) (Some j) k locked may = may
+
+  locked_routine : (b : BlockNo) (under over : Option TaskNo) (running : Option SourceNo) (k : ℕ) → IsTrue (the_block app b.0).locked → MayBegin app (point.Routine b under) over running k → ⊥
+  locked_routine b under over None k locked may = may
+  locked_routine b under over (Some j) k locked may = (let free = may.free in cc)
 
   has_arrivals : (p : Point) → IsPoint app p → HasArrivals app p
-  has_arrivals point.Halted is = none_begin point.Halted (λ over may. may)
-  has_arrivals point.Idle is = begin_over point.Idle None tt (none_alone app)
+  has_arrivals point.Halted is = none_begin point.Halted (λ over running k may. may)
+  has_arrivals point.Idle is = begin_over point.Idle None None (idle_arrivals app)
   has_arrivals (point.Task b) is = elim (cases_Bool (the_block app b.0).locked) [
-    | inl locked ↦ none_begin (point.Task b) (λ over may. locked_out b over locked may)
-    | inr free ↦ begin_over (point.Task b) (Some (task_no is.task)) (free, is.known, is.own) (task_alone app b (task_no is.task) is.known is.own)
+    | inl locked ↦ none_begin (point.Task b) (λ over running k may. locked_task b over running k locked may)
+    | inr free ↦ begin_over (point.Task b) (Some (task_no is.task)) None (task_arrivals app b (task_no is.task) free is.known is.own)
   ]
-  has_arrivals (point.Routine b over) is = none_begin (point.Routine b over) (λ o may. may)
+  has_arrivals (point.Routine b over) is = elim (cases_Bool (the_block app b.0).locked) [
+    | inl locked ↦ none_begin (point.Routine b over) (λ o running k may. locked_routine b over o running k locked may)
+    | inr free ↦ begin_over (point.Routine b over) over (Some (source_no is.source)) (routine_arrivals app b over (source_no is.source) free is.known is.own)
+  ]
 
 module _ (app : App) (p : Point) (entry : PlainEntry) (exits : List Exit) (is : IsPoint app p) (h : AreExits app p entry exits) where
   -- an exit without a decision shows what the rule of an arrival does, and neither notes a status
@@ -65,7 +73,7 @@ module _ (app : App) (p : Point) (entry : PlainEntry) (exits : List Exit) (is : 
   arrival_taken s choice at e =
       let k = shown_arrival app s (Run choice) e in
       let a = has_arrivals app p is in
-      let m = arrival_covered app s at.well p a.rules (Run choice) a.are at.point k.source k.arrives choice refl in
+      let m = arrival_covered app s at.well at.regular p a.rules (Run choice) a.are at.point k.source k.arrives choice refl in
       let r = a.are.each m.rule m.listed in
       let found = h.arrivals m.rule r (abstract_of app s) at.within m.matches.passes in
       let exit : Exit = found.exit in

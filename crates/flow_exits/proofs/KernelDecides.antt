@@ -8,7 +8,7 @@ use Rattle.osek_standard.specs.declared.{app.App.{App}, task_state.{TaskState.{T
 use Rattle.osek_standard.specs.declared.task_state.Activity.TheVariants as activity
 use Rattle.osek_standard.specs.declared.state.Processor.TheVariants as processor
 use Rattle.osek_standard.specs.declared.point.Point.TheVariants as point
-use Rattle.osek_standard.specs.{TaskStates.{is_live, is_live_activity}, States.{task_of, task_state, is_that_task, caller, place_in}, Line.{turn, places}, Internal.{occupied}}
+use Rattle.osek_standard.specs.{TaskStates.{is_live, is_live_activity}, States.{task_of, task_state, is_that_task, caller}, Line.{turn, places}, Internal.{occupied}}
 use Rattle.osek_standard.specs.{Priority.{base_priority, highest, current_priority, best, IsBest}, Effects.{Effect}, Points.{point_of}}
 use Rattle.osek_standard.specs.{Dispatch.{Keep, To, outcome_of, outcome_by, preempted_by, if_above, if_any, settled}, Well.{Well, HasProcessor, IsProcessor, IsTaskLevel}}
 use Rattle.osek_standard.proofs.{PriorityLaws.{live_known, best_is, is_best, best_none, none_live, some_best}, PlaceLaws.{places_in}}

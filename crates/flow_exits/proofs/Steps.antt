@@ -80,6 +80,7 @@ module _ (app : App) (s : State) (choice : Bool) (well : Well app s) (x : Effect
         ∙ ap (λ (u : ℕ). settled_value app x.leaving.stay d u (OfTask (value_in a))) number
     settled_by (component.Event t j) at is = untouched (goes_inside app x.leaving.stay d c) (part_of after.state (component.Event t j)) refl
     settled_by (component.Alarm a) at is = untouched (goes_inside app x.leaving.stay d c) (part_of after.state (component.Alarm a)) refl
+    settled_by (component.Source k) at is = untouched (goes_inside app x.leaving.stay d c) (part_of after.state (component.Source k)) refl
 
     settled_there : abstract_of app (settled app after.state (outcome_of_decision d)) c ≡ settled_value app x.leaving.stay d c (abstract_of app after.state c)
     settled_there = settled_part app after.state (outcome_of_decision d) (component_at app c) ∙ settled_by (component_at app c) refl (component_known app c lt)

@@ -7,7 +7,7 @@ mod exit;
 pub mod laws;
 mod priority;
 
-pub use beginning::arrivals;
+pub use beginning::{arrivals, arrivals_over};
 pub use claim::{Claim, is_running, may_tie};
 pub use exit::Exit;
 pub use priority::{Candidate, as_candidate};

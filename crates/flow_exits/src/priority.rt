@@ -87,6 +87,6 @@ pub fn as_candidate(app: &App, task: TaskNo, value: &PartValue) -> Option<Candid
             block: live.block,
         }),
         PartValue::OfTask(Val::Suspended | Val::Waiting(_)) => None,
-        PartValue::OfEvent(_) | PartValue::OfAlarm(_) => None,
+        PartValue::OfEvent(_) | PartValue::OfAlarm(_) | PartValue::OfSource(_) => None,
     }
 }

@@ -18,6 +18,7 @@ pub line_part : (s : State) (line : List TaskNo) (k : Component) → part_of (wi
 line_part s line (component.Task t) = refl
 line_part s line (component.Event t j) = refl
 line_part s line (component.Alarm a) = refl
+line_part s line (component.Source k) = refl
 
 -- a Live task has one further activation more, and stands where it stood, with the events that it had
 more_value : (app : App) (t : ℕ) (x : TaskState) (a : Activity) → is_live_activity a ≡ true → further_in a < MAX_ACTIVATIONS → activated_more (value_in a) ≡ value_in (activated_by app t x a).activity

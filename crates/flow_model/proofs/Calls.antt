@@ -67,7 +67,7 @@ asks_there : (app : App) (s after : State) (r : Runner) (b : BlockNo) (k : Kind)
 asks_there app s after (runner.Task t) b k n a h kept =
     subst (λ (p : Processor). Asks (asked_for app (runner.Task t) k a) (asking after n (asked_by app (caller p) k a))) (sym h.runs)
     (asks_by t after n (asked_by app (Task t) k a) (has_as_asked app t s after k a h.runs kept))
-asks_there app s after (runner.Routine j over) b k n a h kept =
+asks_there app s after (runner.Routine j z over) b k n a h kept =
     subst (λ (p : Processor). Asks asked.No (asking after n (asked_by app (caller p) k a))) (sym h.runs) refl
 
 -- ---- the line
@@ -127,7 +127,7 @@ call_has app x s choice r b k a call h is answers passing has =
 -- what is asked where the row asks nothing
 pub asked_none : (app : App) (r : Runner) (k : Kind) → asked_for app r k ask.No ≡ asked.No
 asked_none app (runner.Task t) k = refl
-asked_none app (runner.Routine j over) k = refl
+asked_none app (runner.Routine j z over) k = refl
 
 under_schedule : (t : TaskNo) (x : Schedule) (k : Kind) → is_schedule k ≡ false → asked_when t (asked_under x k) ≡ asked_of_task t x
 under_schedule t Full k e = refl
@@ -136,7 +136,7 @@ under_schedule t Non k e = ap (λ (b : Bool). asked_when t (if b then ask.Maybe 
 -- and where it asks for a dispatch, but at Schedule
 pub asked_maybe : (app : App) (r : Runner) (k : Kind) → is_schedule k ≡ false → asked_for app r k ask.Maybe ≡ asked_after app r
 asked_maybe app (runner.Task t) k e = under_schedule t (the_task app t.0).schedule k e
-asked_maybe app (runner.Routine j over) k e = refl
+asked_maybe app (runner.Routine j z over) k e = refl
 
 -- a call after which its caller goes on, and nothing else changes
 pub call_goes_on : (app : App) (s : State) (choice : Bool) (r : Runner) (b : BlockNo) (k : Kind) (conditions : List Condition) (asked : Asked) (status : Option Status) (v : Option Value) (a : Ask) → IsCall app k → Stands app s r b → (the_block app b.0).kind ≡ k →

@@ -3,10 +3,11 @@ pub mod SettledValues
 pub mod BitsOf
 pub mod Writes
 pub mod Activations
-mod RoutineOwners
 pub mod Standing
 pub mod Instructions
 pub mod Moves
+pub mod SourceTests
+pub mod TaskTests
 pub mod LinesAfter
 pub mod Calls
 pub mod Listing

@@ -2,10 +2,10 @@
 use Rattle.std.proofs.Common.{◌≡◌, ◌≢◌, ℕ, ◌<◌, Bool, true, [], ◌∷◌, length, refl, sym, ap, subst, ◌∙◌, inl, inr, arith, get_or-set_same, get_or-set_other}
 use Rattle.std.proofs.lemmas.Bool.{cases_eq, eq-eqb, ne_eqb}
 use Rattle.std.specs.{Prelude.{if◌then◌else◌}, declared.option.Option.{Option}}
-use Rattle.osek_values.specs.{Numbers.{task_no}, declared.{mask.Mask.{Mask}, numbers.{TaskNo.{TaskNo}, BlockNo.{BlockNo}, SourceNo.{SourceNo}}}, Bits.{has_bit}}
+use Rattle.osek_values.specs.{Numbers.{task_no, source_no}, declared.{mask.Mask.{Mask}, numbers.{TaskNo.{TaskNo}, BlockNo.{BlockNo}, SourceNo.{SourceNo}}}, Bits.{has_bit}}
 use Rattle.osek_standard.specs.declared.{app.App.{App}, state.{State.{State}, Processor.{Processor}, Source.{Source}}}
 use Rattle.osek_standard.specs.declared.task_state.{TaskState.{TaskState}, Activity.{Activity}, Place.{Place}}
-use Rattle.osek_standard.specs.{Apps.{the_block}, TaskStates.{suspended, is_live, is_live_activity, is_suspended, held, held_in}}
+use Rattle.osek_standard.specs.{Apps.{source_count, the_block}, TaskStates.{suspended, is_live, is_live_activity, is_suspended, held, held_in}}
 use Rattle.osek_standard.specs.Internal.{IsInside}
 use Rattle.osek_standard.specs.States.{is_that_task, task_of, task_state, with_task, source_state, with_source, place_by, place_in, place_of_source, here}
 use Rattle.osek_standard.specs.{Effects.{place_at, standing_at, task_at, source_at, moved_by, moved, moved_to}, Well.{Well, InOwner, IsOffsetAt, IsProcessor, IsRunningAt}}
@@ -13,11 +13,11 @@ use Rattle.osek_standard.specs.declared.state.Source.TheVariants as source
 use Rattle.osek_standard.specs.declared.state.Processor.TheVariants as processor
 use Rattle.osek_standard.specs.declared.task_state.Activity.TheVariants as activity
 use Rattle.osek_standard.proofs.{Callers.{enters, moved_processor}, FlagLaws.{moved_flags}, MoveKeeps.{moved_keeps}, Keeps.{task_after}}
-use Rattle.abstract_state.specs.declared.value.{Component.{Component}, PartValue.{PartValue, TheVariants.{OfTask, OfEvent}}}
-use Rattle.abstract_state.specs.Components.{component_count, component_at, component_number, part_of, abstract_of, value_in}
+use Rattle.abstract_state.specs.declared.value.{Component.{Component}, PartValue.{PartValue, TheVariants.{OfTask, OfEvent, OfSource}}}
+use Rattle.abstract_state.specs.Components.{component_count, component_at, component_number, part_of, abstract_of, source_value, value_in}
 use Rattle.abstract_state.specs.declared.value.Component.TheVariants as component
-use Rattle.abstract_state.proofs.{ComponentLaws.{component_numbered, task_at_its_number}, AloneLaws.{moved_alone}}
-use Rattle.flow_model.specs.{declared.{change.Update.{Update}, runner.Runner.{Runner}}, Values.{at_block}, Tests.{updated, value_after}, Runners.{Stands, Runs, change, moving}}
+use Rattle.abstract_state.proofs.{ComponentLaws.{component_numbered, task_at_its_number}, Numbers.{component_here}}
+use Rattle.flow_model.specs.{declared.{change.Update.{Update}, runner.Runner.{Runner}}, Values.{at_block, restacked_routine}, Tests.{updated, value_after}, Runners.{Stands, Runs, change, moving}}
 use Rattle.flow_model.specs.declared.change.Update.TheVariants as update
 use Rattle.flow_model.specs.declared.runner.Runner.TheVariants as runner
 
@@ -26,6 +26,11 @@ pub value_at_place : (b : BlockNo) (o : ℕ) (a : Activity) → value_in (standi
 value_at_place b o activity.Suspended = refl
 value_at_place b o (activity.Live x) = refl
 value_at_place b o (activity.Waiting c) = refl
+
+-- and so has a routine
+pub routine_at_place : (b : BlockNo) (o : ℕ) (x : Source) → source_value (source_at x (place_at b o)) ≡ restacked_routine (λ h. h) b (source_value x)
+routine_at_place b o source.Out = refl
+routine_at_place b o (source.In x) = refl
 
 held_at : (to : Place) (a : Activity) → held_in (standing_at a to) ≡ held_in a
 held_at to activity.Suspended = refl
@@ -116,6 +121,7 @@ module _ (app : App) (s : State) (t : ℕ) (x : TaskState) (known : t < length s
   part_elsewhere (component.Event u j) other =
       ap (λ (m : Mask). OfEvent (has_bit m.0 j.0)) (task_after s t x known (λ v y. y.events ≡ (task_state s v).events) kept (λ v _. refl) u.0)
   part_elsewhere (component.Alarm a) other = refl
+  part_elsewhere (component.Source k) other = refl
 
   -- the components after a write of a task's activity, by what becomes of the task's value
   pub activity_parts : (u : Update) → t < length app.tasks → updated u (OfTask (value_in (task_state s t).activity)) ≡ OfTask (value_in x.activity) → (c : ℕ) → c < component_count app →
@@ -129,11 +135,33 @@ module _ (app : App) (s : State) (t : ℕ) (x : TaskState) (known : t < length s
         (part_elsewhere (component_at app c) (other_component app t c lt other) ∙ sym (change_there t u c (abstract_of app s c) other))
   ]
 
--- where a source's routine stands is no component's
-source_part : (s : State) (k : ℕ) (x : Source) (c : Component) → part_of (with_source s k x) c ≡ part_of s c
-source_part s k x (component.Task t) = refl
-source_part s k x (component.Event t j) = refl
-source_part s k x (component.Alarm a) = refl
+-- a source's state is written
+module _ (app : App) (s : State) (k : ℕ) (x : Source) (here : k < length s.sources) (known : k < source_count app) where
+  abbrev written : Component
+  written = component.Source (source_no k)
+
+  source_there : part_of (with_source s k x) written ≡ OfSource (source_value x)
+  source_there = ap (λ (y : Source). OfSource (source_value y)) (get_or-set_same s.sources k x source.Out here)
+
+  source_elsewhere : (c : Component) → c ≢ written → part_of (with_source s k x) c ≡ part_of s c
+  source_elsewhere (component.Task t) other = refl
+  source_elsewhere (component.Event t j) other = refl
+  source_elsewhere (component.Alarm a) other = refl
+  source_elsewhere (component.Source l) other =
+      ap (λ (y : Source). OfSource (source_value y)) (get_or-set_other s.sources k l.0 x source.Out (λ same. other (ap (λ (n : ℕ). component.Source (source_no n)) same)))
+
+  -- the components after it, by what becomes of the source's value
+  pub source_parts : (u : Update) (n : ℕ) → n ≡ component_number app written → updated u (OfSource (source_value (source_state s k))) ≡ OfSource (source_value x) → (c : ℕ) → c < component_count app →
+      abstract_of app (with_source s k x) c ≡ value_after (change n u ∷ []) c (abstract_of app s c)
+  source_parts u n number becomes c lt = elim (cases_eq c n) [
+    | inl same ↦
+        (let at : component_at app c ≡ written = ap (component_at app) (same ∙ number) ∙ component_here app written known in
+        ap (part_of (with_source s k x)) at ∙ source_there ∙ sym becomes
+        ∙ ap (updated u) (sym (ap (part_of s) at)) ∙ sym (change_here n u c (abstract_of app s c) same))
+    | inr other ↦
+        (let apart : component_at app c ≢ written = λ at. other (sym (component_numbered app c lt) ∙ ap (component_number app) at ∙ sym number) in
+        source_elsewhere (component_at app c) apart ∙ sym (change_there n u c (abstract_of app s c) other))
+  ]
 
 module _ (app : App) (s : State) (n : BlockNo) (o : ℕ) where
   abbrev to : Place
@@ -151,9 +179,10 @@ module _ (app : App) (s : State) (n : BlockNo) (o : ℕ) where
       let there : t.0 < length s.tasks = let known = h.has.0 in omega (arith, known, w.tasks_len) in
       ap (λ (r : State). abstract_of app r c) (task_moved t h.runs)
       ∙ activity_parts app s t.0 (task_at (task_state s t.0) to) there refl (update.Block n) h.has.0 (ap OfTask (sym (value_at_place n o (task_state s t.0).activity))) c lt
-  parts_by (runner.Routine k over) b w h c lt =
+  parts_by (runner.Routine k z over) b w h c lt =
+      let there : k.0 < length s.sources = let known = h.known in omega (arith, known, w.sources_len) in
       ap (λ (r : State). abstract_of app r c) (routine_moved k over h.runs)
-      ∙ source_part s k.0 (source_at (source_state s k.0) to) (component_at app c)
+      ∙ source_parts app s k.0 (source_at (source_state s k.0) to) there h.known (update.Block n) z.0 h.number (ap OfSource (sym (routine_at_place n o (source_state s k.0)))) c lt
 
   block_by : (r : Runner) (b : BlockNo) → Well app s → Runs app s r b → (here (moved s to)).block ≡ n
   block_by (runner.Task t) b w h =
@@ -163,7 +192,7 @@ module _ (app : App) (s : State) (n : BlockNo) (o : ℕ) where
       ∙ ap (λ (p : Processor). (place_by after p).block) h.runs
       ∙ ap (λ (y : TaskState). (place_in y.activity).block) (get_or-set_same s.tasks t.0 (task_at (task_state s t.0) to) suspended there)
       ∙ block_at n o (task_state s t.0).activity h.has.1
-  block_by (runner.Routine k over) b w h =
+  block_by (runner.Routine k z over) b w h =
       let there : k.0 < length s.sources = let known = h.known in omega (arith, known, w.sources_len) in
       let has : IsProcessor app s (processor.Interrupted k over) = subst (IsProcessor app s) h.runs w.processor in
       let after : State = with_source s k.0 (source_at (source_state s k.0) to) in
@@ -178,8 +207,9 @@ module _ (app : App) (s : State) (n : BlockNo) (o : ℕ) where
     has = (h.has.0, moved_live app s w to t.0 ∙ h.has.1);
     own = subst (λ (p : Processor). InOwner app p n.0) h.runs own;
   }
-  runs_by (runner.Routine k over) b w h own = record {
+  runs_by (runner.Routine k z over) b w h own = record {
     known = h.known;
+    number = h.number;
     runs = moved_has app s w to ∙ h.runs;
     own = subst (λ (p : Processor). InOwner app p n.0) h.runs own;
   }
@@ -193,7 +223,7 @@ module _ (app : App) (s : State) (n : BlockNo) (o : ℕ) where
     pub moved_stands : InOwner app s.processor n.0 → IsOffsetAt (the_block app n.0).kind o → Stands app (moved s to) r n
     moved_stands own offset = record {
       well = moved_keeps app s h.well to own offset;
-      regular = record { inside = moved_inside app s to h.regular.inside; alone = moved_alone s h.regular.alone to s.processor refl };
+      regular = record { inside = moved_inside app s to h.regular.inside };
       runs = runs_by r b h.well h.runs own;
       block = block_by r b h.well h.runs;
     }

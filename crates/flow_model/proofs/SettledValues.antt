@@ -1,17 +1,18 @@
 -- Who has the processor after a decision is one task, and the changes that settle the values make what it says.
-use Rattle.std.proofs.Common.{◌≡◌, ◌≢◌, ℕ, ◌+◌, ◌<◌, ◌≤◌, ◌&&◌, Bool, true, false, List, [], ◌∷◌, length, map, nat_le, nat_lt, refl, sym, ap, subst, ◌∙◌, inl, inr, ⊎_elim, Some, None}
-use Rattle.std.specs.{Prelude.{if◌then◌else◌, is_some, filter}, List.{range_with_len}, declared.option.Option.{Option}}
+use Rattle.std.proofs.Common.{◌≡◌, ◌≢◌, ℕ, ◌+◌, ◌<◌, Bool, true, false, List, [], ◌∷◌, length, nat_le, nat_lt, refl, sym, ap, ◌∙◌, inl, inr, ⊎_elim, Some, None}
+use Rattle.std.specs.{Prelude.{if◌then◌else◌, is_some, filter}, List.{range_with_len}}
 use Rattle.std.proofs.lemmas.{Bool.{and_from, and_parts, cases_Bool, cases_eq, cases_lt, eqb-true, false≢true, le-leb, leb-true, lt-ltb, ltb-true}, List.{get_or_past}}
 use Rattle.osek_values.specs.declared.numbers.BlockNo.{BlockNo}
 use Rattle.osek_standard.specs.declared.{app.App.{App}, objects.Task.{Task}, point.Point.{Point}}
 use Rattle.osek_standard.specs.declared.point.Point.TheVariants as point
 use Rattle.osek_standard.specs.{Apps.{the_task, no_task}, Internal.{internal_of}, Validity.{is_within}, Well.{IsOwn}}
 use Rattle.osek_standard.proofs.{Members.{Among, among_map, map_among, among_passing, passing_among}, OwnerLaws.{own_once}}
-use Rattle.abstract_state.specs.declared.value.{Val.{Val, TheVariants.{Suspended, Live, Waiting}}, PartValue.{PartValue, TheVariants.{OfTask, OfEvent, OfAlarm}}}
+use Rattle.abstract_state.specs.declared.value.{Val.{Val, TheVariants.{Suspended, Live, Waiting}}, PartValue.{PartValue, TheVariants.{OfTask, OfEvent, OfAlarm, OfSource}}}
 use Rattle.abstract_state.specs.Settling.{inside_val}
 use Rattle.flow_model.specs.declared.{case.{Decision.{Decision}, Stay.{Stay}}, change.{Change.{Change}, Update.{Update}}}
 use Rattle.flow_model.specs.declared.case.Decision.TheVariants as decision
 use Rattle.flow_model.specs.declared.case.Stay.TheVariants as stay
+use Rattle.flow_model.specs.declared.runner.Runner.TheVariants as runner
 use Rattle.flow_model.specs.declared.change.Update.TheVariants as update
 use Rattle.flow_model.specs.{Runners.{change}, Tests.{updated, value_after}, Scheduling.{is_at_task, has_it_after, goes_inside, settled_value, settling}}
 use Rattle.flow_model.proofs.ChangeLaws.{change_here, change_there, elsewhere}
@@ -42,7 +43,8 @@ module _ (app : App) (t u : ℕ) (known : t < length app.tasks) (known_too : u <
   has_it_alone x (decision.To None) e f = absurd (false≢true e)
   has_it_alone x (decision.To (Some w)) e f = sym (eqb-true w.0 t e) ∙ eqb-true w.0 u f
   has_it_alone (stay.At p) decision.Keep e f = at_alone p e f
-  has_it_alone (stay.AtBlockOf w) decision.Keep e f = sym (eqb-true w.0 t e) ∙ eqb-true w.0 u f
+  has_it_alone (stay.AtBlockOf (runner.Task w)) decision.Keep e f = sym (eqb-true w.0 t e) ∙ eqb-true w.0 u f
+  has_it_alone (stay.AtBlockOf (runner.Routine k z over)) decision.Keep e f = absurd (false≢true e)
 
 -- a component that names an INTERNAL resource is a task
 pub named_known : (app : App) (c : ℕ) → is_some (internal_of app c) ≡ true → c < length app.tasks
@@ -65,6 +67,7 @@ pub inside_already : (v : PartValue) → updated update.Inside (updated update.I
 inside_already (OfTask v) = ap OfTask (inside_twice v)
 inside_already (OfEvent b) = refl
 inside_already (OfAlarm b) = refl
+inside_already (OfSource v) = refl
 
 module _ (c : ℕ) where
   abbrev AllBringIn : List Change → Type 0

@@ -8,9 +8,9 @@ use Rattle.osek_standard.specs.declared.block.Kind.TheVariants as kind
 use Rattle.osek_standard.specs.declared.state.Processor.TheVariants as processor
 use Rattle.osek_standard.specs.declared.point.Point.TheVariants as point
 use Rattle.osek_standard.proofs.{Callers.{BlockHere, block_here}, MoveKeeps.{here_own}, OwnerLaws.{own_once}}
-use Rattle.abstract_state.specs.Regular.{IsRegular}
-use Rattle.flow_model.proofs.RoutineOwners.{routine_once}
-use Rattle.flow_model.specs.{declared.runner.Runner.{Runner}, Runners.{Stands, Runs, OwnsBlock, runner_point}}
+use Rattle.abstract_state.specs.{declared.value.ComponentNo.{ComponentNo}, Components.{component_no}, Regular.{IsRegular}}
+use Rattle.abstract_state.proofs.RoutineOwners.{routine_once}
+use Rattle.flow_model.specs.{declared.runner.Runner.{Runner}, Runners.{Stands, Runs, OwnsBlock, routine_runner, runner_point}}
 use Rattle.flow_model.specs.declared.runner.Runner.TheVariants as runner
 
 -- at a task's point some task has the processor, and stands there
@@ -58,7 +58,7 @@ module _ (app : App) (s : State) (b : BlockNo) (w : Well app s) where
       )
 
   -- a routine that runs at a routine's point stands there
-  stands_in : (over : Option TaskNo) → point_of s ≡ point.Routine b over → (k : SourceNo) × Occupies app s (runner.Routine k over) b
+  pub stands_in : (over : Option TaskNo) → point_of s ≡ point.Routine b over → (k : SourceNo) × Occupies app s (routine_runner app k over) b
   stands_in over e =
       let r = routine_runs s s.processor b over e in
       let has : IsProcessor app s (processor.Interrupted r.source over) = subst (IsProcessor app s) r.runs w.processor in
@@ -66,7 +66,7 @@ module _ (app : App) (s : State) (b : BlockNo) (w : Well app s) where
       let here_owned : InOwner app (processor.Interrupted r.source over) (here s).block.0 = subst (λ (p : Processor). InOwner app p (here s).block.0) r.runs (here_own app s w active) in (
         r.source,
         record {
-          runs = record { known = has.known; runs = r.runs; own = subst (λ (c : BlockNo). IsOfRoutine app r.source.0 c.0) r.block here_owned };
+          runs = record { known = has.known; number = refl; runs = r.runs; own = subst (λ (c : BlockNo). IsOfRoutine app r.source.0 c.0) r.block here_owned };
           block = r.block;
         },
       )
@@ -84,10 +84,11 @@ occupies app s (runner.Task t) b owns w e =
     let h = stands_at app s b w e in
     let same : h.0.0 ≡ t.0 = own_once app h.0.0 t.0 b.0 h.1.runs.has.0 owns.0 h.1.runs.own owns.1 in
     subst (λ (u : TaskNo). Occupies app s (runner.Task u) b) (ap task_no same) h.1
-occupies app s (runner.Routine k over) b owns w e =
+occupies app s (runner.Routine k z over) b owns w e =
     let h = stands_in app s b w over e in
     let same : h.0.0 ≡ k.0 = routine_once app h.0.0 k.0 b.0 h.1.runs.known owns.known h.1.runs.own owns.own in
-    subst (λ (l : SourceNo). Occupies app s (runner.Routine l over) b) (ap source_no same) h.1
+    let here : Occupies app s (routine_runner app k over) b = subst (λ (l : SourceNo). Occupies app s (routine_runner app l over) b) (ap source_no same) h.1 in
+    subst (λ (y : ComponentNo). Occupies app s (runner.Routine k y over) b) (ap component_no (sym owns.number)) here
 
 pub stands_here : (app : App) (s : State) (r : Runner) (b : BlockNo) → OwnsBlock app r b → Well app s → IsRegular app s → point_of s ≡ runner_point r b → Stands app s r b
 stands_here app s r b owns w regular e = let h = occupies app s r b owns w e in record { well = w; regular = regular; runs = h.runs; block = h.block }
@@ -95,20 +96,20 @@ stands_here app s r b owns w regular e = let h = occupies app s r b owns w e in 
 -- the point of a runner at its block is the application's
 pub owned_point : (app : App) (r : Runner) (b : BlockNo) → OwnsBlock app r b → IsPoint app (runner_point r b)
 owned_point app (runner.Task t) b owns = record { task = t.0; known = owns.0; own = owns.1 }
-owned_point app (runner.Routine k over) b owns = record { source = k.0; known = owns.known; own = owns.own; task = owns.task }
+owned_point app (runner.Routine k z over) b owns = record { source = k.0; known = owns.known; own = owns.own; task = owns.task }
 
 module _ (app : App) (s : State) where
   runs_active : (r : Runner) (b : BlockNo) → Runs app s r b → IsActive s.processor
   runs_active (runner.Task t) b h = subst IsActive (sym h.runs) tt
-  runs_active (runner.Routine k over) b h = subst IsActive (sym h.runs) tt
+  runs_active (runner.Routine k z over) b h = subst IsActive (sym h.runs) tt
 
   runs_own : (r : Runner) (b : BlockNo) → Runs app s r b → InOwner app s.processor b.0
   runs_own (runner.Task t) b h = subst (λ (p : Processor). InOwner app p b.0) (sym h.runs) h.own
-  runs_own (runner.Routine k over) b h = subst (λ (p : Processor). InOwner app p b.0) (sym h.runs) h.own
+  runs_own (runner.Routine k z over) b h = subst (λ (p : Processor). InOwner app p b.0) (sym h.runs) h.own
 
   runs_point : (r : Runner) (b c : BlockNo) → Runs app s r b → c ≡ b → point_at c s.processor ≡ runner_point r b
   runs_point (runner.Task t) b c h e = ap (point_at c) h.runs ∙ ap point.Task e
-  runs_point (runner.Routine k over) b c h e = ap (point_at c) h.runs ∙ ap (λ (d : BlockNo). point.Routine d over) e
+  runs_point (runner.Routine k z over) b c h e = ap (point_at c) h.runs ∙ ap (λ (d : BlockNo). point.Routine d over) e
 
   module _ (r : Runner) (b : BlockNo) (h : Stands app s r b) where
     pub is_active : IsActive s.processor
@@ -136,5 +137,5 @@ module _ (app : App) (s : State) where
   pub task_calls : (t : TaskNo) (b : BlockNo) → Stands app s (runner.Task t) b → caller s.processor ≡ Task t
   task_calls t b h = ap caller h.runs.runs
 
-  pub routine_calls : (k : SourceNo) (over : Option TaskNo) (b : BlockNo) → Stands app s (runner.Routine k over) b → caller s.processor ≡ Routine k
-  routine_calls k over b h = ap caller h.runs.runs
+  pub routine_calls : (k : SourceNo) (z : ComponentNo) (over : Option TaskNo) (b : BlockNo) → Stands app s (runner.Routine k z over) b → caller s.processor ≡ Routine k
+  routine_calls k z over b h = ap caller h.runs.runs

@@ -19,11 +19,13 @@ abbrev event_task : Component → ℕ
 event_task (component.Task t) = 0
 event_task (component.Event t k) = t.0
 event_task (component.Alarm a) = 0
+event_task (component.Source k) = 0
 
 abbrev event_bit : Component → ℕ
 event_bit (component.Task t) = 0
 event_bit (component.Event t k) = k.0
 event_bit (component.Alarm a) = 0
+event_bit (component.Source k) = 0
 
 module _ (app : App) where
   module _ (t bits : ℕ) (flag : Bool) (known : t < length app.tasks) (within : (k : ℕ) → has_bit bits k ≡ true → has_bit (the_task app t).own.0 k ≡ true) where
@@ -95,6 +97,9 @@ module _ (app : App) where
         part_after (component.Alarm a) at is =
             sym (other_events c (part_of s (component.Alarm a)) (λ k e set. absurd (cc)))
             ∙ sym (change_there (task_change t (value_in x.activity)) (event_changes app t bits flag) c (part_of s (component.Alarm a)) (not_the_task (component.Alarm a) at (λ e. absurd (cc))))
+        part_after (component.Source k) at is =
+            sym (other_events c (part_of s (component.Source k)) (λ j e set. absurd (cc)))
+            ∙ sym (change_there (task_change t (value_in x.activity)) (event_changes app t bits flag) c (part_of s (component.Source k)) (not_the_task (component.Source k) at (λ e. absurd (cc))))
 
         -- the task becomes what its activity says, and of its events those of these bits change
         pub task_written : abstract_of app (with_task s t x) c ≡ value_after (task_change t (value_in x.activity) ∷ event_changes app t bits flag) c (abstract_of app s c)
@@ -129,6 +134,7 @@ module _ (app : App) where
           (ap (λ (y : AlarmState). OfAlarm (is_armed y)) (get_or-set_other s.alarms a b.0 x alarm.Idle other)
           ∙ sym (change_there one [] c (part_of s (component.Alarm b)) (elsewhere_of (component.Alarm b) at (λ e. other (cc)))))
     ]
+    part_with (component.Source k) at is = sym (change_there one [] c (part_of s (component.Source k)) (elsewhere_of (component.Source k) at (λ e. absurd (cc))))
 
     -- a write to an alarm
     pub alarm_written : abstract_of app (with_alarm s a x) c ≡ value_after (alarm_change app a (is_armed x) ∷ []) c (abstract_of app s c)

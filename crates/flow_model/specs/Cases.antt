@@ -40,7 +40,7 @@ asked_when t ask.Free = asked.Free
 -- what a call of this kind asks, where its row asks so; at interrupt level it is nothing
 abbrev pub asked_for : App → Runner → Kind → Ask → Asked
 asked_for app (runner.Task t) k a = asked_when t (asked_by app (Task t) k a)
-asked_for app (runner.Routine j over) k a = asked.No
+asked_for app (runner.Routine j z over) k a = asked.No
 
 abbrev pub asked_under : TaskNo → Schedule → Asked
 asked_under t Full = asked.Maybe t
@@ -49,7 +49,7 @@ asked_under t Non = asked.No
 -- what a call asks that may lead to a dispatch: a preemptive task alone asks
 abbrev pub asked_after : App → Runner → Asked
 asked_after app (runner.Task t) = asked_under t (the_task app t.0).schedule
-asked_after app (runner.Routine j over) = asked.No
+asked_after app (runner.Routine j z over) = asked.No
 
 -- The runner goes on to a block, and nothing else changes.
 abbrev pub goes_on : Runner → BlockNo → List Condition → Asked → Option Status → EffectCase

@@ -1,8 +1,8 @@
--- What becomes of the components: of a task, of its events, of an alarm.
+-- What becomes of the components: of a task, of its events, of an alarm, of a source.
 use Rattle.std.specs.Prelude.{ℕ, Bool, false, List, [], ◌∷◌, map}
-use Rattle.osek_values.specs.{Bits.{bits_of}, Numbers.{task_no, event_no, alarm_no}}
+use Rattle.osek_values.specs.{Bits.{bits_of}, Numbers.{task_no, event_no, alarm_no, source_no}}
 use Rattle.osek_standard.specs.{declared.app.App.{App}, Apps.{the_task}}
-use Rattle.abstract_state.specs.declared.value.{Val.{Val, TheVariants.{Live}}, PartValue.TheVariants.{OfTask, OfEvent, OfAlarm}}
+use Rattle.abstract_state.specs.declared.value.{Val.{Val, TheVariants.{Live}}, SourceVal.{SourceVal}, PartValue.TheVariants.{OfTask, OfEvent, OfAlarm, OfSource}}
 use Rattle.abstract_state.specs.declared.value.Component.TheVariants as component
 use Rattle.abstract_state.specs.Components.{component_number, live_val}
 use Rattle.flow_model.specs.declared.change.Change.{Change}
@@ -17,6 +17,10 @@ module _ (app : App) where
   -- an alarm becomes armed or idle
   abbrev pub alarm_change : ℕ → Bool → Change
   alarm_change a armed = change (component_number app (component.Alarm (alarm_no a))) (update.Set (OfAlarm armed))
+
+  -- a source becomes this
+  abbrev pub source_change : ℕ → SourceVal → Change
+  source_change k v = change (component_number app (component.Source (source_no k))) (update.Set (OfSource v))
 
   -- an event of a task becomes set or unset
   abbrev pub event_change : ℕ → Bool → ℕ → Change

@@ -1,5 +1,5 @@
 -- What the cases of an effect say of the states at a point.
-use Rattle.std.specs.{Prelude.{◌≡◌, ⊤, ℕ, ◌<◌, Bool, false, List, [], ◌∷◌, ◌++◌, length, IsTrue, IfSome, None, Contains}, declared.option.Option.{Option}}
+use Rattle.std.specs.{Prelude.{◌≡◌, ⊤, ℕ, ◌<◌, Bool, false, List, [], ◌∷◌, ◌++◌, IsTrue, IfSome, None, Contains}, declared.option.Option.{Option}}
 use Rattle.osek_values.specs.declared.numbers.TaskNo.{TaskNo}
 use Rattle.osek_values.specs.declared.status.Ask.TheVariants as ask
 use Rattle.osek_standard.specs.declared.{app.App.{App}, state.State.{State}}
@@ -8,11 +8,11 @@ use Rattle.osek_standard.specs.declared.point.Point.{Point}
 use Rattle.osek_standard.specs.declared.point.Point.TheVariants as point
 use Rattle.osek_standard.specs.{States.{is_that_task, task_of}, Points.{point_of}, Line.{places}, Effects.{Effect, effect}, Arrivals.{arrival}, Well.{Well, IsActive}}
 use Rattle.abstract_state.specs.{declared.{value.PartValue.{PartValue}, table.PlainEntry.{PlainEntry}}, Components.{component_count, abstract_of, IsAllowed}}
-use Rattle.abstract_state.specs.{Concrete.{HasParts, val_of}, Choices.{IsFirstIfThere}, Regular.{IsRegular}, Tables.{set_at, is_member}}
+use Rattle.abstract_state.specs.{Concrete.{HasParts}, Choices.{IsFirstIfThere}, Regular.{IsRegular}, Tables.{set_at, is_member}}
 use Rattle.flow_model.specs.declared.case.{Asked.{Asked}, Stay.{Stay}, EffectCase.{EffectCase}}
 use Rattle.flow_model.specs.declared.case.Asked.TheVariants as asked
 use Rattle.flow_model.specs.declared.case.Stay.TheVariants as stay
-use Rattle.flow_model.specs.{Values.{block_of}, Tests.{PassesAll, value_after}}
+use Rattle.flow_model.specs.{Values.{block_of_part}, Runners.{component_of, runner_point, runner_processor, IsRunnerOf}, Tests.{PassesAll, value_after}}
 
 -- a value for each component, out of its set
 abbrev pub AreIn : App → PlainEntry → (ℕ → PartValue) → Type 0
@@ -38,19 +38,19 @@ Asks asked.Free e = (e.ask ≡ ask.Free) × (e.state.processor ≡ processor.Idl
 -- it stays there in this state
 abbrev pub StaysAt : Stay → State → Type 0
 StaysAt (stay.At p) s = point_of s ≡ p
-StaysAt (stay.AtBlockOf t) s = s.processor ≡ processor.Running t
+StaysAt (stay.AtBlockOf r) s = s.processor ≡ runner_processor r
 
 -- where the processor stands if it stays, with these values after the effect
 abbrev pub stay_point : Stay → (ℕ → PartValue) → Point
 stay_point (stay.At p) value = p
-stay_point (stay.AtBlockOf t) value = point.Task (block_of (val_of (value t.0)))
+stay_point (stay.AtBlockOf r) value = runner_point r (block_of_part (value (component_of r)))
 
--- a task at whose block it stays is one of the application's
+-- a runner at whose block it stays is one of the application's
 abbrev pub IsKnownStay : App → Stay → Type 0
 IsKnownStay app (stay.At p) = ⊤
-IsKnownStay app (stay.AtBlockOf t) = t.0 < length app.tasks
+IsKnownStay app (stay.AtBlockOf r) = IsRunnerOf app r
 
--- each case stays at a point or at the block of a task of the application
+-- each case stays at a point or at the block of a runner of the application
 abbrev pub HaveKnownStays : App → List EffectCase → Type 0
 HaveKnownStays app cases = (x : EffectCase) → Contains cases x → IsKnownStay app x.leaving.stay
 

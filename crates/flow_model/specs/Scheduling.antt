@@ -11,6 +11,7 @@ use Rattle.flow_model.specs.declared.case.Asked.TheVariants as asked
 use Rattle.flow_model.specs.declared.case.Decision.TheVariants as decision
 use Rattle.flow_model.specs.declared.case.Stay.TheVariants as stay
 use Rattle.flow_model.specs.declared.change.Change.{Change}
+use Rattle.flow_model.specs.declared.runner.Runner.TheVariants as runner
 use Rattle.flow_model.specs.declared.change.Update.TheVariants as update
 use Rattle.flow_model.specs.{Values.{is_live_value, block_of, value_priority}, Runners.{change}, Tests.{updated, PassesAll, values_after}, Effects.{AreIn, stay_point}}
 
@@ -90,7 +91,8 @@ is_at_task app (point.Routine b over) c = false
 abbrev pub has_it_after : App → Stay → Decision → ℕ → Bool
 has_it_after app x (decision.To o) c = is_that_task o c
 has_it_after app (stay.At p) decision.Keep c = is_at_task app p c
-has_it_after app (stay.AtBlockOf t) decision.Keep c = t.0 == c
+has_it_after app (stay.AtBlockOf (runner.Task t)) decision.Keep c = t.0 == c
+has_it_after app (stay.AtBlockOf (runner.Routine k z over)) decision.Keep c = false
 
 -- it has, and names an INTERNAL resource
 abbrev pub goes_inside : App → Stay → Decision → ℕ → Bool

@@ -4,21 +4,32 @@ use Rattle.osek_values.specs.declared.numbers.ResNo.{ResNo}
 use Rattle.osek_standard.specs.{declared.app.App.{App}, TaskStates.{holds}}
 use Rattle.osek_values.specs.Bits.{has_bit}
 use Rattle.osek_standard.specs.Services.{is_on_top}
-use Rattle.abstract_state.specs.{declared.value.{Val.{Val}, PartValue.{PartValue, TheVariants.{OfTask, OfEvent, OfAlarm}}}, ValueOrder.{same_part}, Components.{component_count}, Settling.{inside_val}}
+use Rattle.abstract_state.specs.{declared.value.{Val.{Val}, PartValue.{PartValue, TheVariants.{OfTask, OfEvent, OfAlarm, OfSource}}}, ValueOrder.{same_part}, Components.{component_count}, Settling.{inside_val}}
 use Rattle.flow_model.specs.declared.test.{Test.{Test}, Condition.{Condition}}
 use Rattle.flow_model.specs.declared.test.Test.TheVariants as test
 use Rattle.flow_model.specs.declared.change.{Update.{Update}, Change.{Change}}
 use Rattle.flow_model.specs.declared.change.Update.TheVariants as update
-use Rattle.flow_model.specs.Values.{is_suspended_value, held_of, further_of, has_room, is_full_value, at_block, restacked, with_top, without_top, activated_more, begun_again, outside_at}
+use Rattle.flow_model.specs.Values.{is_suspended_value, held_of, held_by_routine, further_of, has_room, is_full_value, restacked_part, with_top, without_top, activated_more, begun_again, outside_at}
 
 -- a test of a task's value; what is no task's passes
 abbrev pub of_task : (Val → Bool) → PartValue → Bool
 of_task f (OfTask v) = f v
 of_task f (OfEvent b) = true
 of_task f (OfAlarm b) = true
+of_task f (OfSource v) = true
+
+-- a test of what a task or a routine holds; what is neither's passes
+abbrev pub of_stack : (List ResNo → Bool) → PartValue → Bool
+of_stack f (OfTask v) = f (held_of v)
+of_stack f (OfEvent b) = true
+of_stack f (OfAlarm b) = true
+of_stack f (OfSource v) = f (held_by_routine v)
+
+abbrev pub is_none_of : ℕ → List ResNo → Bool
+is_none_of m held = not (list_any (λ (r : ResNo). has_bit m r.0) held)
 
 abbrev pub holds_none_of : ℕ → Val → Bool
-holds_none_of m v = not (list_any (λ (r : ResNo). has_bit m r.0) (held_of v))
+holds_none_of m v = is_none_of m (held_of v)
 
 abbrev pub holds_nothing : Val → Bool
 holds_nothing v = length (held_of v) == 0
@@ -29,12 +40,12 @@ passes (test.Is w) v = same_part v w
 passes (test.IsNot w) v = not (same_part v w)
 passes test.Suspended v = of_task is_suspended_value v
 passes test.NotSuspended v = of_task (λ x. not (is_suspended_value x)) v
-passes (test.Holds r) v = of_task (λ x. holds (held_of x) r.0) v
-passes (test.HoldsNoneOf m) v = of_task (holds_none_of m.0) v
+passes (test.Holds r) v = of_stack (λ h. holds h r.0) v
+passes (test.HoldsNoneOf m) v = of_stack (is_none_of m.0) v
 passes test.HoldsSome v = of_task (λ x. not (holds_nothing x)) v
 passes test.HoldsNothing v = of_task holds_nothing v
-passes (test.OnTop r) v = of_task (λ x. is_on_top r.0 (held_of x)) v
-passes (test.NotOnTop r) v = of_task (λ x. not (is_on_top r.0 (held_of x))) v
+passes (test.OnTop r) v = of_stack (is_on_top r.0) v
+passes (test.NotOnTop r) v = of_stack (λ h. not (is_on_top r.0 h)) v
 passes (test.Full n) v = of_task (is_full_value n) v
 passes (test.Room n) v = of_task (has_room n) v
 passes test.NoFurther v = of_task (λ x. further_of x == 0) v
@@ -45,12 +56,13 @@ abbrev pub on_task : (Val → Val) → PartValue → PartValue
 on_task f (OfTask v) = OfTask (f v)
 on_task f (OfEvent x) = OfEvent x
 on_task f (OfAlarm x) = OfAlarm x
+on_task f (OfSource x) = OfSource x
 
 abbrev pub updated : Update → PartValue → PartValue
 updated (update.Set w) v = w
-updated (update.Block b) v = on_task (at_block b) v
-updated (update.Take r b) v = on_task (restacked (λ h. with_top h r) b) v
-updated (update.Give b) v = on_task (restacked without_top b) v
+updated (update.Block b) v = restacked_part (λ h. h) b v
+updated (update.Take r b) v = restacked_part (λ h. with_top h r) b v
+updated (update.Give b) v = restacked_part without_top b v
 updated update.More v = on_task activated_more v
 updated (update.Again b) v = on_task (begun_again b) v
 updated (update.Leave b) v = on_task (outside_at b) v

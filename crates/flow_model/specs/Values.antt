@@ -2,7 +2,9 @@
 use Rattle.std.specs.{Prelude.{ℕ, ◌+◌, ◌-◌, Bool, true, false, not, nat_lt, List, [], ◌∷◌, ◌++◌, length, take, None, if◌then◌else◌}, List.{cons_option}}
 use Rattle.osek_values.specs.{Numbers.{block_no}, declared.{limits.TheConstants.{MAX_ACTIVATIONS, MAX_RESOURCES}, numbers.{BlockNo.{BlockNo}, ResNo.{ResNo}}}}
 use Rattle.osek_standard.specs.{declared.app.App.{App}, Internal.{internal_of}, Priority.{base_priority, highest}}
-use Rattle.abstract_state.specs.{declared.value.Val.{Val, TheVariants.{Suspended, Live, Waiting}}, Components.{live_val}, Settling.{inside_val}}
+use Rattle.abstract_state.specs.declared.value.{Val.{Val, TheVariants.{Suspended, Live, Waiting}}, SourceVal.{SourceVal}, PartValue.{PartValue, TheVariants.{OfTask, OfEvent, OfAlarm, OfSource}}}
+use Rattle.abstract_state.specs.{Components.{live_val, routine_val}, Settling.{inside_val}}
+use Rattle.abstract_state.specs.declared.value.SourceVal.TheVariants as source_val
 
 abbrev pub is_suspended_value : Val → Bool
 is_suspended_value Suspended = true
@@ -19,6 +21,11 @@ abbrev pub held_of : Val → List ResNo
 held_of Suspended = []
 held_of (Live x) = x.held
 held_of (Waiting b) = []
+
+-- and those that a routine holds
+abbrev pub held_by_routine : SourceVal → List ResNo
+held_by_routine source_val.Out = []
+held_by_routine (source_val.In x) = x.held
 
 -- its further activations
 abbrev pub further_of : Val → ℕ
@@ -44,6 +51,18 @@ block_of Suspended = block_no 0
 block_of (Live x) = x.block
 block_of (Waiting b) = b
 
+-- and where a routine stands; one that hasn't begun stands nowhere
+abbrev pub block_of_routine : SourceVal → BlockNo
+block_of_routine source_val.Out = block_no 0
+block_of_routine (source_val.In x) = x.block
+
+-- where a task or a routine stands
+abbrev pub block_of_part : PartValue → BlockNo
+block_of_part (OfTask v) = block_of v
+block_of_part (OfEvent b) = block_no 0
+block_of_part (OfAlarm b) = block_no 0
+block_of_part (OfSource v) = block_of_routine v
+
 -- a stack with a resource on top besides; a full one takes none
 abbrev pub with_top : List ResNo → ResNo → List ResNo
 with_top h r = if nat_lt (length h) MAX_RESOURCES then h ++ r ∷ [] else h
@@ -61,6 +80,18 @@ restacked f b (Waiting c) = Waiting c
 -- a Live task at another block, with the same stack
 abbrev pub at_block : BlockNo → Val → Val
 at_block b v = restacked (λ h. h) b v
+
+-- a routine at another block, with another stack
+abbrev pub restacked_routine : (List ResNo → List ResNo) → BlockNo → SourceVal → SourceVal
+restacked_routine f b source_val.Out = source_val.Out
+restacked_routine f b (source_val.In x) = source_val.In (routine_val b (f x.held))
+
+-- a Live task or a routine at another block, with another stack; all else stays
+abbrev pub restacked_part : (List ResNo → List ResNo) → BlockNo → PartValue → PartValue
+restacked_part f b (OfTask v) = OfTask (restacked f b v)
+restacked_part f b (OfEvent x) = OfEvent x
+restacked_part f b (OfAlarm x) = OfAlarm x
+restacked_part f b (OfSource v) = OfSource (restacked_routine f b v)
 
 -- one further activation more, unless there are as many as there may be
 abbrev pub one_further : ℕ → ℕ

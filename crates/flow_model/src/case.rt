@@ -1,6 +1,7 @@
 //! An instruction in two halves: the cases of its effect, and those of what the scheduler does after it.
 
 use crate::change::Change;
+use crate::runner::Runner;
 use crate::test::Condition;
 use abstract_state::Point;
 use osek_values::{Seq, Status, TaskNo};
@@ -23,8 +24,8 @@ pub enum Asked {
 pub enum Stay {
     /// At this point.
     At(Point),
-    /// At the block of the task to which a routine gives it back.
-    AtBlockOf(TaskNo),
+    /// At the block of the task or the routine to which a routine gives it back.
+    AtBlockOf(Runner),
 }
 
 /// What an effect leaves to the scheduler: what it asks, who was put last, and where the processor stands if it stays.

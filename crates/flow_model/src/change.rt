@@ -2,10 +2,11 @@
 ghost use Rattle.std.specs.Prelude.{◌≡◌, ◌-◌, false, []};
 ghost use Rattle.abstract_state.specs.declared.value.PartValue.TheVariants as part;
 ghost use Rattle.abstract_state.specs.declared.value.Val.TheVariants as val;
-ghost use Rattle.abstract_state.specs.Components.{live_val};
+ghost use Rattle.abstract_state.specs.declared.value.SourceVal.TheVariants as source_val;
+ghost use Rattle.abstract_state.specs.Components.{live_val, routine_val};
 ghost use Rattle.flow_model.specs.{Values.{one_further as one_further_of, with_top as with_top_of, without_top as without_top_of}, Tests.{value_after as value_after_of}};
 
-use abstract_state::{ComponentNo, LiveVal, PartValue, Val};
+use abstract_state::{ComponentNo, LiveVal, PartValue, RoutineVal, SourceVal, Val};
 use osek_values::limits::{MAX_ACTIVATIONS, MAX_RESOURCES};
 use osek_values::{BlockNo, Held, ResNo};
 
@@ -14,11 +15,12 @@ use osek_values::{BlockNo, Held, ResNo};
 pub enum Update {
     /// It becomes this value.
     Set(PartValue),
-    /// A Live task stands at this block, and holds what it held.
+    /// A Live task or a routine stands at this block, and holds what it held.
     Block(BlockNo),
-    /// A Live task stands at the block, and holds the resource on top besides, unless it holds as many as there may be.
+    /// A Live task or a routine stands at the block, and holds the resource on top besides, unless it holds as many as there
+    /// may be.
     Take { resource: ResNo, block: BlockNo },
-    /// A Live task stands at the block, and has given back what was on top.
+    /// A Live task or a routine stands at the block, and has given back what was on top.
     Give { block: BlockNo },
     /// A Live task has one further activation more, unless it has as many as there may be.
     More,
@@ -55,6 +57,14 @@ impl Update {
             }
             (Update::Give { block }, PartValue::OfTask(Val::Live(live))) => {
                 standing(*block, live, without_top(&live.held))
+            }
+            (Update::Block(block), PartValue::OfSource(SourceVal::In(routine))) => {
+                routine_at(*block, routine.held.copy())
+            }
+            (Update::Take { resource, block }, PartValue::OfSource(SourceVal::In(routine))) =>
+                routine_at(*block, with_top(&routine.held, *resource)),
+            (Update::Give { block }, PartValue::OfSource(SourceVal::In(routine))) => {
+                routine_at(*block, without_top(&routine.held))
             }
             (Update::More, PartValue::OfTask(Val::Live(live))) => with_one_further(live),
             (Update::Again(block), PartValue::OfTask(Val::Live(live))) => {
@@ -112,6 +122,13 @@ fn standing(block: BlockNo, live: &LiveVal, held: Held) -> PartValue
         inside: live.inside,
         held,
     }))
+}
+
+// a routine at a block, with a stack
+fn routine_at(block: BlockNo, held: Held) -> PartValue
+    ensures { result ≡ part.OfSource (source_val.In (routine_val block held)) }
+{
+    PartValue::OfSource(SourceVal::In(RoutineVal { block, held }))
 }
 
 // a Live task with one further activation more

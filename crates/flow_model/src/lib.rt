@@ -4,6 +4,7 @@
 
 mod case;
 mod change;
+mod going;
 mod rule;
 mod runner;
 mod test;

@@ -3,10 +3,11 @@ ghost use Rattle.std.specs.{Prelude.{◌≡◌, ◌+◌, nat_lt}, List.{list_any
 ghost use Rattle.osek_values.specs.{declared.numbers.ResNo.{ResNo}, Bits.{has_bit}};
 ghost use Rattle.osek_standard.specs.Services.{is_on_top as is_on_top_of};
 
-use abstract_state::{ComponentNo, PartValue, Val};
+use abstract_state::{ComponentNo, PartValue, SourceVal, Val};
 use osek_values::{Held, Mask, ResNo};
 
-/// A test of a component's value. The tests of tasks pass for every event and alarm.
+/// A test of a component's value. What is no task's and no source's passes the tests of what is held, and what is no task's
+/// passes those of activity.
 #[derive(Drop)]
 pub enum Test {
     /// It is this value.
@@ -15,15 +16,15 @@ pub enum Test {
     IsNot(PartValue),
     Suspended,
     NotSuspended,
-    /// The task holds this resource.
+    /// The task or the routine holds this resource.
     Holds(ResNo),
-    /// The task holds none of the resources whose bit is set.
+    /// The task or the routine holds none of the resources whose bit is set.
     HoldsNoneOf(Mask),
     /// The task holds some resource.
     HoldsSome,
     /// The task holds no resource.
     HoldsNothing,
-    /// The task took this resource last of those that it holds.
+    /// The task or the routine took this resource last of those that it holds.
     OnTop(ResNo),
     NotOnTop(ResNo),
     /// The task takes no further activation: it waits, or has so many.
@@ -58,8 +59,15 @@ impl Test {
             (Test::NotSuspended, PartValue::OfTask(Val::Suspended)) => false,
             (Test::Holds(resource), PartValue::OfTask(Val::Live(live))) => live.held.has(*resource),
             (Test::Holds(_), PartValue::OfTask(_)) => false,
+            (Test::Holds(resource), PartValue::OfSource(SourceVal::In(routine))) => {
+                routine.held.has(*resource)
+            }
+            (Test::Holds(_), PartValue::OfSource(SourceVal::Out)) => false,
             (Test::HoldsNoneOf(resources), PartValue::OfTask(Val::Live(live))) => {
                 !holds_one_of(live.held.as_slice(), *resources)
+            }
+            (Test::HoldsNoneOf(resources), PartValue::OfSource(SourceVal::In(routine))) => {
+                !holds_one_of(routine.held.as_slice(), *resources)
             }
             (Test::HoldsSome, PartValue::OfTask(Val::Live(live))) => !live.held.is_empty(),
             (Test::HoldsSome, PartValue::OfTask(_)) => false,
@@ -68,8 +76,15 @@ impl Test {
                 is_on_top(&live.held, *resource)
             }
             (Test::OnTop(_), PartValue::OfTask(_)) => false,
+            (Test::OnTop(resource), PartValue::OfSource(SourceVal::In(routine))) => {
+                is_on_top(&routine.held, *resource)
+            }
+            (Test::OnTop(_), PartValue::OfSource(SourceVal::Out)) => false,
             (Test::NotOnTop(resource), PartValue::OfTask(Val::Live(live))) => {
                 !is_on_top(&live.held, *resource)
+            }
+            (Test::NotOnTop(resource), PartValue::OfSource(SourceVal::In(routine))) => {
+                !is_on_top(&routine.held, *resource)
             }
             (Test::Full(most), PartValue::OfTask(Val::Live(live))) => {
                 !has_room(live.further, *most)

@@ -1,21 +1,23 @@
 -- What the rows at a block say of its resource, and that it is reached.
-use Rattle.std.proofs.Common.{◌≡◌, ℕ, ◌<◌, Bool, true, false, ◌&&◌, not, List, length, IsTrue, refl, sym, ap, subst, ◌∙◌, arith}
-use Rattle.std.specs.{Bool.{Decides}}
-use Rattle.std.proofs.lemmas.{List.{get_or_default}, List.Folds.{Any-from_list_any, list_any_at}}
-use Rattle.osek_values.specs.{Numbers.{block_no}, declared.numbers.{BlockNo.{BlockNo}, ResNo.{ResNo}}}
-use Rattle.osek_standard.specs.declared.{app.App.{App}, block.Kind.{Kind}, state.State.{State}, task_state.{TaskState.{TaskState}, Activity.{Activity}}}
+use Rattle.std.proofs.Common.{◌≡◌, ◌⊎◌, ℕ, ◌<◌, Bool, true, false, ◌&&◌, not, List, length, IsTrue, refl, sym, ap, subst, ◌∙◌, inl, inr, arith}
+use Rattle.std.specs.{Bool.{Decides}, List.{list_any}}
+use Rattle.std.proofs.lemmas.{Bool.{or_cases, or_left, or_right}, List.{get_or_default}, List.Folds.{Any-from_list_any, list_any_at}}
+use Rattle.osek_values.specs.{Numbers.{block_no, source_no}, declared.numbers.{BlockNo.{BlockNo}, ResNo.{ResNo}}}
+use Rattle.osek_standard.specs.declared.{app.App.{App}, block.Kind.{Kind}, state.{State.{State}, Source.{Source}}, task_state.{TaskState.{TaskState}, Activity.{Activity}}}
+use Rattle.osek_standard.specs.declared.state.Source.TheVariants as source
 use Rattle.osek_standard.specs.declared.task_state.Activity.TheVariants as activity
 use Rattle.osek_standard.specs.declared.block.Kind.TheVariants as kind
 use Rattle.image_model.specs.CallNames as call
-use Rattle.osek_standard.specs.{TaskStates.{held, held_in, holds, suspended}, States.{task_state, is_taken}, Points.{point_of, StandsAt}}
-use Rattle.abstract_state.specs.declared.value.{PartValue.{PartValue}}
-use Rattle.abstract_state.specs.{Components.{abstract_of, part_of, value_in}, Tables.{Sets, In}}
+use Rattle.osek_standard.specs.{Apps.{source_count}, TaskStates.{held, held_in, holds, suspended}, States.{task_state, source_state, held_by_source, is_taken}, Points.{point_of, StandsAt}}
+use Rattle.abstract_state.specs.declared.value.PartValue.{PartValue}
+use Rattle.abstract_state.specs.declared.value.Component.TheVariants as component
+use Rattle.abstract_state.specs.{Components.{abstract_of, component_number, part_of, source_value, value_in}, Tables.{Sets, In}}
 use Rattle.abstract_state.proofs.ComponentLaws.{task_at_its_number}
-use Rattle.flow_model.specs.{Tests.{passes}, Values.{held_of}}
+use Rattle.flow_model.specs.{Tests.{passes}, Values.{held_of, held_by_routine}}
 use Rattle.flow_model.specs.declared.test.Test.TheVariants as test
+use Rattle.flow_model.proofs.SourceTests.{test_of_source}
 use Rattle.flow_report.specs.{declared.finding.Finding.{Finding}, Findings.{Takes, IsReachedBlock, Holds}, FindingOrder.{rank}, Reached.{IsTakenAt}}
 use Rattle.flow_report.specs.declared.finding.Finding.TheVariants as finding
-use Rattle.flow_report.proofs.TakenBlocks.{taken_by_tasks}
 
 -- ---- a resource on a stack
 
@@ -24,35 +26,77 @@ held_of_value activity.Suspended = refl
 held_of_value (activity.Live y) = refl
 held_of_value (activity.Waiting b) = refl
 
+held_by_value : (x : Source) → held_by_routine (source_value x) ≡ held_by_source x
+held_by_value source.Out = refl
+held_by_value (source.In y) = refl
+
 module _ (app : App) (table : Sets) (b : BlockNo) (r : ResNo) where
+  abbrev task_holds : TaskState → Bool
+  task_holds x = holds (held x) r.0
+
+  abbrev source_holds : Source → Bool
+  source_holds x = holds (held_by_source x) r.0
+
+  abbrev pub source_number : ℕ → ℕ
+  source_number k = component_number app (component.Source (source_no k))
+
   -- the test of a task's value says what its stack has
-  holds_here : (s : State) (t : ℕ) → t < length app.tasks → passes (test.Holds r) (abstract_of app s t) ≡ holds (held (task_state s t)) r.0
+  holds_here : (s : State) (t : ℕ) → t < length app.tasks → passes (test.Holds r) (abstract_of app s t) ≡ task_holds (task_state s t)
   holds_here s t lt =
       ap (λ (v : PartValue). passes (test.Holds r) v) (ap (part_of s) (task_at_its_number app t lt))
       ∙ ap (λ (h : List ResNo). holds h r.0) (held_of_value (task_state s t).activity)
 
-  -- a task of a state holds it
-  pub taken_by : (s : State) → In app table s → StandsAt (point_of s) b → (t : ℕ) → t < length app.tasks → IsTrue (passes (test.Holds r) (abstract_of app s t)) → IsTakenAt app table b r
-  taken_by s inside stands t lt h = record {
-    state = s;
-    inside = inside;
-    stands = stands;
-    taken = list_any_at (λ (x : TaskState). holds (held x) r.0) s.tasks t suspended (omega (arith, lt, inside.well.tasks_len)) (sym (holds_here s t lt) ∙ h);
-  }
+  -- and that of a source's what its routine's has
+  source_here : (s : State) (k : ℕ) → k < source_count app → passes (test.Holds r) (abstract_of app s (source_number k)) ≡ source_holds (source_state s k)
+  source_here s k lt = test_of_source app s k lt (test.Holds r) ∙ ap (λ (h : List ResNo). holds h r.0) (held_by_value (source_state s k))
+
+  module _ (s : State) (inside : In app table s) (stands : StandsAt (point_of s) b) where
+    -- a task of a state holds it
+    pub taken_by : (t : ℕ) → t < length app.tasks → IsTrue (passes (test.Holds r) (abstract_of app s t)) → IsTakenAt app table b r
+    taken_by t lt h = record {
+      state = s;
+      inside = inside;
+      stands = stands;
+      taken = or_left (list_any task_holds s.tasks) (list_any source_holds s.sources)
+          (list_any_at task_holds s.tasks t suspended (omega (arith, lt, inside.well.tasks_len)) (sym (holds_here s t lt) ∙ h));
+    }
+
+    -- or a routine
+    pub taken_by_routine : (k : ℕ) → k < source_count app → IsTrue (passes (test.Holds r) (abstract_of app s (source_number k))) → IsTakenAt app table b r
+    taken_by_routine k lt h = record {
+      state = s;
+      inside = inside;
+      stands = stands;
+      taken = or_right (list_any task_holds s.tasks) (list_any source_holds s.sources)
+          (list_any_at source_holds s.sources k source.Out (omega (arith, lt, inside.well.sources_len)) (sym (source_here s k lt) ∙ h));
+    }
 
   -- who holds it
-  pub record Holder (s : State) : Type 0 where
+  pub record TaskHolder (s : State) : Type 0 where
     pub task : ℕ
     pub known : task < length app.tasks
     pub passes : IsTrue (passes (test.Holds r) (abstract_of app s task))
 
-  pub holder_of : (h : IsTakenAt app table b r) → Holder h.state
+  pub record RoutineHolder (s : State) : Type 0 where
+    pub source : ℕ
+    pub known : source < source_count app
+    pub passes : IsTrue (passes (test.Holds r) (abstract_of app s (source_number source)))
+
+  pub holder_of : (h : IsTakenAt app table b r) → TaskHolder h.state ⊎ RoutineHolder h.state
   holder_of h =
       let s = h.state in
-      let x = Any-from_list_any (λ (y : TaskState). holds (held y) r.0) s.tasks h.taken in
-      let lt : x.0 < length app.tasks = omega (arith, x.2, h.inside.well.tasks_len) in
-      let at : task_state s x.0 ≡ x.1 = get_or_default s.tasks x.0 suspended x.1 x.2 ∙ x.3 in
-      record { task = x.0; known = lt; passes = holds_here s x.0 lt ∙ ap (λ (y : TaskState). holds (held y) r.0) at ∙ x.4 }
+      elim (or_cases (list_any task_holds s.tasks) (list_any source_holds s.sources) h.taken) [
+        | inl some ↦
+            (let x = Any-from_list_any task_holds s.tasks some in
+            let lt : x.0 < length app.tasks = omega (arith, x.2, h.inside.well.tasks_len) in
+            let at : task_state s x.0 ≡ x.1 = get_or_default s.tasks x.0 suspended x.1 x.2 ∙ x.3 in
+            inl (record { task = x.0; known = lt; passes = holds_here s x.0 lt ∙ ap task_holds at ∙ x.4 }))
+        | inr some ↦
+            (let x = Any-from_list_any source_holds s.sources some in
+            let lt : x.0 < source_count app = omega (arith, x.2, h.inside.well.sources_len) in
+            let at : source_state s x.0 ≡ x.1 = get_or_default s.sources x.0 source.Out x.1 x.2 ∙ x.3 in
+            inr (record { source = x.0; known = lt; passes = source_here s x.0 lt ∙ ap source_holds at ∙ x.4 }))
+      ]
 
 -- ---- findings of a block
 
@@ -67,7 +111,7 @@ module _ (app : App) (table : Sets) (b : BlockNo) where
   free_by true true r known takes there on = (
     λ e. absurd (cc),
     λ h.
-        (let x = on.0 refl in absurd (h.1.1 x.state x.inside (x.stands, r, takes, taken_by_tasks app b r takes x.state x.inside.well x.stands ∙ x.taken))),
+        (let x = on.0 refl in absurd (h.1.1 x.state x.inside (x.stands, r, takes, x.taken))),
   )
   free_by true false r known takes there on = (
     λ e. (
@@ -76,8 +120,7 @@ module _ (app : App) (table : Sets) (b : BlockNo) where
         there.0 refl,
         λ s inside d.
             (let same : d.1 ≡ r = resource_once d.1 d.2 in
-            let taken : is_taken s r.0 ≡ true = subst (λ (q : ResNo). IsTrue (is_taken s q.0)) same d.3 in
-            let wrong : false ≡ true = on.1 (record { state = s; inside = inside; stands = d.0; taken = sym (taken_by_tasks app b r takes s inside.well d.0) ∙ taken }) in
+            let wrong : false ≡ true = on.1 (record { state = s; inside = inside; stands = d.0; taken = subst (λ (q : ResNo). IsTrue (is_taken s q.0)) same d.3 }) in
             absurd (cc)),
       ),
     ),

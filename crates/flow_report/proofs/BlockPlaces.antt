@@ -1,19 +1,22 @@
 -- The rows of a block stand together, from the first that doesn't come before the block's points.
-use Rattle.std.proofs.Common.{◌≡◌, ◌⊎◌, ℕ, ◌<◌, ◌≤◌, true, false, List, length, get_or, refl, sym, ap, subst, ◌∙◌, inl, inr, arith}
+use Rattle.std.proofs.Common.{◌≡◌, ◌⊎◌, ℕ, ◌<◌, ◌≤◌, true, false, List, length, get_or, IsTrue, refl, sym, ap, subst, ◌∙◌, inl, inr, arith}
 use Rattle.std.specs.{Prelude.{Contains}, List.Sorted.{IsPartitionedBy}}
 use Rattle.std.proofs.lemmas.{Bool.{cases_lt, cases_eq, cases_order, cases_Bool, lt-ltb, ltb-true, ltb-false}, List.Elements.{Contains-get_or}}
-use Rattle.osek_values.specs.{Numbers.{block_no}, declared.numbers.{BlockNo.{BlockNo}, ResNo.{ResNo}}}
-use Rattle.osek_standard.specs.{declared.{app.App.{App}, point.Point.{Point}}, Points.{point_number, IsPoint, StandsAt}}
+use Rattle.osek_values.specs.{Numbers.{block_no, source_no}, declared.numbers.{BlockNo.{BlockNo}, ResNo.{ResNo}}}
+use Rattle.osek_standard.specs.{declared.{app.App.{App}, point.Point.{Point}, state.State.{State}}, Points.{point_number, point_of, IsPoint, StandsAt}}
 use Rattle.osek_standard.specs.declared.point.Point.TheVariants as point
 use Rattle.osek_standard.proofs.PointLaws.{by_block}
 use Rattle.abstract_state.specs.declared.table.TableRow.{TableRow}
-use Rattle.abstract_state.proofs.ComponentLaws.{task_counted}
+use Rattle.abstract_state.specs.declared.value.Component.TheVariants as component
+use Rattle.abstract_state.specs.{Components.{abstract_of, component_count, component_number}, Tables.{In}}
+use Rattle.abstract_state.proofs.{ComponentLaws.{task_counted}, Numbers.{number_known}}
+use Rattle.flow_model.specs.Tests.{passes}
 use Rattle.flow_model.specs.declared.test.Test.TheVariants as test
 use Rattle.numbered_sets.specs.{declared.table.NumberedRow.{NumberedRow}, Pools.{Values}, PlainTables.{plain_row, plain_table}}
 use Rattle.flow_check.specs.Rows.{AreRowsFrom}
 use Rattle.flow_check.proofs.TableRows.{in_order, plain_proper, listed_plain, plain_listed}
-use Rattle.flow_report.specs.{Findings.{IsReachedBlock}, Reached.{IsTakenAt, IsHeldIn, ArePartedAt, comes_before, table_of}}
-use Rattle.flow_report.proofs.{RowStates.{row_of_state}, ShownRows.{block_reached, state_of_row, row_by_state}, BlockFindings.{taken_by, holder_of}}
+use Rattle.flow_report.specs.{Findings.{IsReachedBlock}, Reached.{HasPassing, IsTakenAt, IsHeldIn, ArePartedAt, comes_before, table_of}}
+use Rattle.flow_report.proofs.{RowStates.{row_of_state}, ShownRows.{block_reached, state_of_row, row_by_state}, BlockFindings.{taken_by, taken_by_routine, holder_of}}
 
 -- ---- points
 
@@ -111,16 +114,32 @@ module _ (app : App) (pool : List Values) (rows : List NumberedRow) (from : AreR
     ])
 
     module _ (r : ResNo) where
-      pub taken_at : (row : NumberedRow) → Contains rows row → StandsAt row.point b → IsHeldIn (length app.tasks) r (plain_row pool row) → IsTakenAt app (table_of pool rows) b r
-      taken_at row listed at h =
+      pub taken_at : (row : NumberedRow) → Contains rows row → StandsAt row.point b → IsHeldIn app r (plain_row pool row) → IsTakenAt app (table_of pool rows) b r
+      taken_at row listed at (inl h) =
           let x = state_of_row app (plain_table pool rows) from.written h.task (test.Holds r) (task_counted app h.task h.known) (plain_row pool row) (plain_listed pool rows row listed) h.value in
           taken_by app (table_of pool rows) b r x.state x.inside (subst (λ (p : Point). StandsAt p b) (sym x.point) at) h.task h.known x.passes
+      taken_at row listed at (inr h) =
+          let k = component.Source (source_no h.source) in
+          let x = state_of_row app (plain_table pool rows) from.written (component_number app k) (test.Holds r) (number_known app k h.known) (plain_row pool row) (plain_listed pool rows row listed) h.value in
+          taken_by_routine app (table_of pool rows) b r x.state x.inside (subst (λ (p : Point). StandsAt p b) (sym x.point) at) h.source h.known x.passes
 
-      pub none_taken : ((k : ℕ) (d : NumberedRow) → k < length rows → StandsAt (get_or rows k d).point b → IsHeldIn (length app.tasks) r (plain_row pool (get_or rows k d)) → ⊥) → IsTakenAt app (table_of pool rows) b r → ⊥
-      none_taken none h =
-          let t = holder_of app (table_of pool rows) b r h in
-          let x = row_by_state app (plain_table pool rows) from.written t.task (test.Holds r) (task_counted app t.task t.known) h.state h.inside t.passes in
+      -- no row of the block says that the resource is held
+      abbrev pub HeldInNone : Type 0
+      HeldInNone = (k : ℕ) (d : NumberedRow) → k < length rows → StandsAt (get_or rows k d).point b → IsHeldIn app r (plain_row pool (get_or rows k d)) → ⊥
+
+      -- a component of a state by whose value it is held
+      held_there : (c : ℕ) → c < component_count app → ((row : TableRow) → HasPassing c (test.Holds r) row.entry → IsHeldIn app r row) → HeldInNone
+          → (s : State) → In app (table_of pool rows) s → StandsAt (point_of s) b → IsTrue (passes (test.Holds r) (abstract_of app s c)) → ⊥
+      held_there c lt holder none s inside stands passed =
+          let x = row_by_state app (plain_table pool rows) from.written c (test.Holds r) lt s inside passed in
           let y = listed_plain pool rows x.row x.among in
-          let held : IsHeldIn (length app.tasks) r x.row = record { task = t.task; known = t.known; value = x.value } in
-          none y.1.0 y.0 y.1.1 (subst (λ (z : NumberedRow). StandsAt z.point b) (sym y.1.2) (subst (λ (p : Point). StandsAt p b) (x.point ∙ ap (λ (z : TableRow). z.point) y.2) h.stands))
-          (subst (λ (z : NumberedRow). IsHeldIn (length app.tasks) r (plain_row pool z)) (sym y.1.2) (subst (IsHeldIn (length app.tasks) r) y.2 held))
+          none y.1.0 y.0 y.1.1 (subst (λ (z : NumberedRow). StandsAt z.point b) (sym y.1.2) (subst (λ (p : Point). StandsAt p b) (x.point ∙ ap (λ (z : TableRow). z.point) y.2) stands))
+          (subst (λ (z : NumberedRow). IsHeldIn app r (plain_row pool z)) (sym y.1.2) (subst (IsHeldIn app r) y.2 (holder x.row x.value)))
+
+      pub none_taken : HeldInNone → IsTakenAt app (table_of pool rows) b r → ⊥
+      none_taken none h = elim (holder_of app (table_of pool rows) b r h) [
+        | inl t ↦ held_there t.task (task_counted app t.task t.known) (λ row v. inl (record { task = t.task; known = t.known; value = v })) none h.state h.inside h.stands t.passes
+        | inr k ↦
+            held_there (component_number app (component.Source (source_no k.source))) (number_known app (component.Source (source_no k.source)) k.known)
+            (λ row v. inr (record { source = k.source; known = k.known; value = v })) none h.state h.inside h.stands k.passes
+      ]

@@ -4,7 +4,6 @@ mod RowStates
 mod PassingNumbers
 mod ShownRows
 mod FlagFindings
-mod TakenBlocks
 mod BlockFindings
 mod BlockPlaces
 mod HookBits

@@ -1,11 +1,12 @@
 -- What the rows of a table show of the states in it.
-use Rattle.std.specs.{Prelude.{◌≡◌, ℕ, ◌<◌, nat_lt, Bool, true, false, List, IsTrue}, List.{list_any, Sorted.{IsPartitionPoint}}}
-use Rattle.osek_values.specs.declared.numbers.{BlockNo.{BlockNo}, ResNo.{ResNo}}
-use Rattle.osek_standard.specs.declared.{app.App.{App}, point.Point.{Point}, state.State.{State}, task_state.TaskState.{TaskState}}
+use Rattle.std.specs.{Prelude.{◌≡◌, ◌⊎◌, ℕ, ◌<◌, nat_lt, Bool, true, false, List, length, IsTrue}, List.Sorted.{IsPartitionPoint}}
+use Rattle.osek_values.specs.{declared.numbers.{BlockNo.{BlockNo}, ResNo.{ResNo}}, Numbers.{source_no}}
+use Rattle.osek_standard.specs.declared.{app.App.{App}, point.Point.{Point}, state.State.{State}}
 use Rattle.osek_standard.specs.declared.point.Point.TheVariants as point
-use Rattle.osek_standard.specs.{Points.{point_of, StandsAt}, TaskStates.{held, holds}}
+use Rattle.osek_standard.specs.{Apps.{source_count}, Points.{point_of, StandsAt}, States.{is_taken}}
 use Rattle.abstract_state.specs.declared.{value.PartValue.{PartValue}, table.{PlainEntry.{PlainEntry}, TableRow.{TableRow}}}
-use Rattle.abstract_state.specs.{Components.{abstract_of}, Tables.{Sets, In, set_at, is_member, sets_of}}
+use Rattle.abstract_state.specs.declared.value.Component.TheVariants as component
+use Rattle.abstract_state.specs.{Components.{abstract_of, component_number}, Tables.{Sets, In, set_at, is_member, sets_of}}
 use Rattle.flow_model.specs.{declared.test.Test.{Test}, Tests.{passes}}
 use Rattle.flow_model.specs.declared.test.Test.TheVariants as test
 use Rattle.numbered_sets.specs.{declared.table.NumberedRow.{NumberedRow}, Pools.{Values}, PlainTables.{plain_table}}
@@ -26,18 +27,27 @@ pub record ShowsState (c : ℕ) (t : Test) (app : App) (table : Sets) : Type 0 w
   pub inside : In app table state
   pub passes : IsTrue (passes t (abstract_of app state c))
 
--- by a value of the row one of so many tasks holds the resource
-pub record IsHeldIn (tasks : ℕ) (r : ResNo) (row : TableRow) : Type 0 where
+-- by a value of the row some task holds the resource
+pub record IsHeldByTask (app : App) (r : ResNo) (row : TableRow) : Type 0 where
   pub task : ℕ
-  pub known : task < tasks
+  pub known : task < length app.tasks
   pub value : HasPassing task (test.Holds r) row.entry
 
--- some task holds the resource in a state of the table at the block
+-- or some routine does
+pub record IsHeldByRoutine (app : App) (r : ResNo) (row : TableRow) : Type 0 where
+  pub source : ℕ
+  pub known : source < source_count app
+  pub value : HasPassing (component_number app (component.Source (source_no source))) (test.Holds r) row.entry
+
+abbrev pub IsHeldIn : App → ResNo → TableRow → Type 0
+IsHeldIn app r row = IsHeldByTask app r row ⊎ IsHeldByRoutine app r row
+
+-- some task or routine holds the resource in a state of the table at the block
 pub record IsTakenAt (app : App) (table : Sets) (b : BlockNo) (r : ResNo) : Type 0 where
   pub state : State
   pub inside : In app table state
   pub stands : StandsAt (point_of state) b
-  pub taken : IsTrue (list_any (λ (x : TaskState). holds (held x) r.0) state.tasks)
+  pub taken : IsTrue (is_taken state r.0)
 
 -- halted, idle, or of a block before this one
 abbrev pub comes_before : Point → ℕ → Bool

@@ -109,7 +109,7 @@ fn has_exit(group: &ExitGroup) -> bool
 {
     match &group.ends {
         Ends::At(points) => points.len() > 0,
-        Ends::With { ends, .. } => ends.len() > 0,
+        Ends::With(ends) => ends.len() > 0,
     }
 }
 

@@ -4,11 +4,11 @@ ghost use Rattle.numbered_sets.specs.Views.{AreNumbersOf, plain_entry};
 ghost use Rattle.osek_standard.specs.Points.{StandsAt};
 ghost use Rattle.flow_report.specs.Reached.{HasPassing, comes_before};
 
-use abstract_state::Point;
+use abstract_state::{Component, Point, component_number};
 use flow_model::Test;
 use numbered_sets::{NumberedEntry, NumberedRow, Pool};
 use osek_standard::App;
-use osek_values::{BlockNo, ResNo};
+use osek_values::{BlockNo, ResNo, SourceNo};
 
 /// An application, and the rows of a table of it beside the pool of their values.
 #[derive(Drop)]
@@ -22,7 +22,7 @@ impl<'a> Reached<'a> {
     ghost use Rattle.std.specs.{Prelude.{◌<◌, length, Contains}, Bool.{Decides}};
     ghost use Rattle.abstract_state.specs.Components.{component_count};
     ghost use Rattle.numbered_sets.specs.PlainTables.{plain_row};
-    ghost use Rattle.flow_report.specs.{Reached.{ShowsState, IsTakenAt, IsHeldIn, ArePartedAt, table_of}, Findings.{IsReachedBlock}};
+    ghost use Rattle.flow_report.specs.{Reached.{ShowsState, IsTakenAt, IsHeldByTask, IsHeldByRoutine, IsHeldIn, ArePartedAt, table_of}, Findings.{IsReachedBlock}};
     ghost use Rattle.flow_check.specs.Rows.{AreRowsFrom};
 
     /// Whether a component's value passes a test in some state.
@@ -59,7 +59,7 @@ impl<'a> Reached<'a> {
         }
     }
 
-    /// Whether some task holds a resource in some state at a block.
+    /// Whether some task or routine holds a resource in some state at a block.
     pub fn is_taken_at(&self, block: BlockNo, resource: ResNo) -> bool
         requires { AreRowsFrom self.now.app.now self.now.pool.now self.now.rows.now }
         ensures { Decides result (IsTakenAt self.now.app.now (table_of self.now.pool.now self.now.rows.now) block resource) }
@@ -77,15 +77,41 @@ impl<'a> Reached<'a> {
         false
     }
 
-    // whether some task holds a resource by a value of a row
+    // whether some task or routine holds a resource by a value of a row
     fn is_held_in(&self, row: &NumberedRow, resource: ResNo) -> bool
         requires rows { AreRowsFrom self.now.app.now self.now.pool.now self.now.rows.now }
         requires among { Contains self.now.rows.now row.now }
-        ensures { Decides result (IsHeldIn (length self.now.app.now.tasks) resource (plain_row self.now.pool.now row.now)) }
+        ensures { Decides result (IsHeldIn self.now.app.now resource (plain_row self.now.pool.now row.now)) }
+    {
+        if self.is_held_by_task(row, resource) {
+            return true;
+        }
+        self.is_held_by_routine(row, resource)
+    }
+
+    fn is_held_by_task(&self, row: &NumberedRow, resource: ResNo) -> bool
+        requires rows { AreRowsFrom self.now.app.now self.now.pool.now self.now.rows.now }
+        requires among { Contains self.now.rows.now row.now }
+        ensures { Decides result (IsHeldByTask self.now.app.now resource (plain_row self.now.pool.now row.now)) }
     {
         let held = Test::Holds(resource);
         for task in 0..self.app.tasks.len() {
             if has_passing(self.pool, &row.entry, task, &held) {
+                return true;
+            }
+        }
+        false
+    }
+
+    fn is_held_by_routine(&self, row: &NumberedRow, resource: ResNo) -> bool
+        requires rows { AreRowsFrom self.now.app.now self.now.pool.now self.now.rows.now }
+        requires among { Contains self.now.rows.now row.now }
+        ensures { Decides result (IsHeldByRoutine self.now.app.now resource (plain_row self.now.pool.now row.now)) }
+    {
+        let held = Test::Holds(resource);
+        for source in 0..self.app.counters.len() + self.app.isrs.len() {
+            let component = component_number(self.app, Component::Source(SourceNo(source as u8)));
+            if has_passing(self.pool, &row.entry, component.index(), &held) {
                 return true;
             }
         }

@@ -1,23 +1,25 @@
 -- The part of an entry that is allowed at a point has exactly the values that well-formed states have there.
-use Rattle.std.proofs.Common.{◌≡◌, ℕ, ◌+◌, ◌<◌, ◌≤◌, Bool, true, false, not, ◌&&◌, length, refl, sym, ap, subst, ◌∙◌, inl, inr, arith, Some, None, IsTrue}
-use Rattle.std.specs.{Prelude.{◌==◌, nat_lt, nat_le}, Cmp.{booleans_Decides}}
+use Rattle.std.proofs.Common.{◌≡◌, ℕ, ◌+◌, ◌<◌, ◌≤◌, Bool, true, false, not, ◌&&◌, List, [], ◌∷◌, length, filter, All, refl, sym, ap, subst, ◌∙◌, inl, inr, arith, Some, None, IsTrue}
+use Rattle.std.specs.{Prelude.{◌==◌, nat_lt, nat_le, Contains, if◌then◌else◌}, List.{IsDistinct, range_with_len}, Cmp.{booleans_Decides}}
 use Rattle.std.proofs.Math.Bool.{beq}
-use Rattle.std.proofs.lemmas.Bool.{cases_Bool, and_parts, or_cases, or_left, or_right, eqb-true, eq-eqb, Decides.{nat_tests}}
-use Rattle.osek_values.specs.{Numbers.{block_no}, declared.numbers.BlockNo.{BlockNo}}
+use Rattle.std.proofs.lemmas.Bool.{cases_Bool, false≢true, and_parts, or_cases, or_left, or_right, eqb-true, eq-eqb, Decides.{nat_tests}}
+use Rattle.osek_values.specs.{Bits.{has_bit}, Numbers.{block_no, mask, res_no}, declared.numbers.{BlockNo.{BlockNo}, ResNo.{ResNo}}}
 use Rattle.osek_standard.specs.declared.{app.App.{App}, block.Kind.{Kind}}
 use Rattle.osek_standard.specs.declared.block.Kind.TheVariants as kind
 use Rattle.osek_standard.specs.declared.call.Call.{Call, TheVariants.{Plain, Task, Resource, SetEvent, Mask, Alarm, Arm, Lock, ShutdownOs}}
 use Rattle.osek_standard.specs.declared.{call.MaskService.TheVariants.{ClearEvent, WaitEvent}, point.Point.{Point}}
 use Rattle.osek_standard.specs.declared.point.Point.TheVariants as point
-use Rattle.osek_standard.specs.{Apps.{the_task, the_block, is_extended}, Well.{IsWaitEvent, IsOwn}}
-use Rattle.abstract_state.specs.declared.value.{Val.{Val, TheVariants.{Suspended, Live, Waiting}}, Component.{Component}, PartValue.{PartValue, TheVariants.{OfTask, OfEvent, OfAlarm}}}
+use Rattle.osek_standard.specs.{Apps.{the_task, the_block, is_counter, is_extended, routine_start, routine_count}, Well.{IsWaitEvent, IsOwn, IsOfRoutine, IsStack, same_resource}}
+use Rattle.abstract_state.specs.declared.value.{Val.{Val, TheVariants.{Suspended, Live, Waiting}}, SourceVal.{SourceVal}, Component.{Component}, PartValue.{PartValue, TheVariants.{OfTask, OfEvent, OfAlarm, OfSource}}}
+use Rattle.abstract_state.specs.declared.value.SourceVal.TheVariants as source_val
 use Rattle.abstract_state.specs.declared.value.Component.TheVariants as component
 use Rattle.abstract_state.specs.declared.table.PlainEntry.{PlainEntry}
-use Rattle.abstract_state.specs.Components.{component_at, component_count, component_number, IsComponent, RunsAt, IsInterruptedVal, IsVal, FitsPoint, IsPart, IsAllowed}
-use Rattle.abstract_state.specs.{Concrete.{AreAllowed}, Domains.{IsValWithin, IsWithin, domain_of, takable_resources}, Tables.{set_at, is_member}}
-use Rattle.abstract_state.proofs.{DomainValues.{stack_within}, ComponentLaws.{component_known, component_numbered}}
+use Rattle.abstract_state.specs.Components.{component_at, component_count, RunsAt, IsInterruptedVal, IsVal, FitsPoint, IsInAt, IsSourceVal, SourceFitsPoint, IsPart, IsAllowed}
+use Rattle.abstract_state.specs.{Concrete.{AreAllowed}, Domains.{IsValWithin, IsSourceWithin, IsWithin, domain_of, resources_in, takable_resources, takable_by_source}, Tables.{set_at, is_member}}
+use Rattle.osek_standard.proofs.Members.{contained_among, map_among, passing_among}
+use Rattle.abstract_state.proofs.{BitLaws.{no_bit_past}, DomainValues.{stack_within}}
 use Rattle.flow_model.specs.Effects.{AreIn, AreAllAllowed}
-use Rattle.flow_rules.specs.Allowed.{is_wait, has_flag, stands_at, may_wait, names_internal, owns, fits, may_be, IsAllowedPart}
+use Rattle.flow_rules.specs.Allowed.{is_wait, has_flag, stands_at, is_out, is_in_at, may_wait, names_internal, owns, fits, is_of_routine, source_fits, may_be_by, may_be, IsAllowedPart}
 
 -- ---- WaitEvent blocks
 
@@ -154,42 +156,112 @@ module _ (app : App) where
     | inr other ↦ or_left (not (u.0 == t)) (has_flag (names_internal app t) v) (ap not other)
   ]
 
+  -- ---- values of sources
+
+  -- a tick routine takes nothing, and an ISR what it may
+  nothing_held : (held : List ResNo) → All (λ (r : ResNo). Contains (resources_in (mask 0)) r) held → held ≡ []
+  nothing_held [] known = refl
+  nothing_held (r ∷ rs) known =
+      let back = map_among res_no r (filter (has_bit 0) (range_with_len 0 64)) (contained_among (resources_in (mask 0)) r (known 0 r (omega arith))) in
+      let set : has_bit 0 back.0 ≡ true = (passing_among (has_bit 0) 64 back.0 back.1).0 in
+      absurd (false≢true (sym (no_bit_past (λ k. true) 0 back.0 (omega arith)) ∙ set))
+
+  stack_taken : (c : Bool) (held : List ResNo) → IsDistinct same_resource held → All (λ (r : ResNo). Contains (resources_in (if c then mask 0 else takable_resources app)) r) held → IsStack app held × (c ≡ true → held ≡ [])
+  stack_taken true held distinct known =
+      let none = nothing_held held known in
+      (subst (IsStack app) (sym none) (stack_within app [] (subst (IsDistinct same_resource) none distinct) (λ i d lt. absurd (omega (arith, lt)))), λ e. none)
+  stack_taken false held distinct known = (stack_within app held distinct known, λ e. absurd (cc))
+
+  is_source_val : (k : ℕ) (v : SourceVal) → IsSourceWithin (routine_start app k).0 (routine_count app k) (takable_by_source app k) v → IsSourceVal app k v
+  is_source_val k source_val.Out w = tt
+  is_source_val k (source_val.In x) w = (let stack = stack_taken (is_counter app k) x.held w.distinct w.known in record { own = w.own; stack = stack.0; none = stack.1 })
+
+  out_is : (v : SourceVal) → is_out v ≡ true → v ≡ source_val.Out
+  out_is source_val.Out e = refl
+  out_is (source_val.In x) e = absurd (cc)
+
+  in_is : (b : BlockNo) (v : SourceVal) → is_in_at b v ≡ true → IsInAt app b v
+  in_is b source_val.Out e = absurd (cc)
+  in_is b (source_val.In x) e = ap block_no (eqb-true x.block.0 b.0 e)
+
+  is_in : (b : BlockNo) (v : SourceVal) → IsInAt app b v → is_in_at b v ≡ true
+  is_in b source_val.Out h = absurd h
+  is_in b (source_val.In x) h = eq-eqb x.block.0 b.0 (ap (λ (y : BlockNo). y.0) h)
+
+  routine_is : (k b : ℕ) → is_of_routine app k b ≡ true → IsOfRoutine app k b
+  routine_is k b e =
+      let parts = and_parts (nat_le (routine_start app k).0 b) (nat_lt b ((routine_start app k).0 + routine_count app k)) e in
+      let above : (routine_start app k).0 ≤ b = let p = parts.0 in grind (arith, nat_tests) in
+      let below : b < (routine_start app k).0 + routine_count app k = let p = parts.1 in grind (arith, nat_tests) in
+      (above, below)
+
+  is_routine : (k b : ℕ) → IsOfRoutine app k b → is_of_routine app k b ≡ true
+  is_routine k b h =
+      let above : nat_le (routine_start app k).0 b ≡ true = let p = h.0 in grind (arith, nat_tests) in
+      let below : nat_lt b ((routine_start app k).0 + routine_count app k) ≡ true = let p = h.1 in grind (arith, nat_tests) in
+      both_true (nat_le (routine_start app k).0 b) (nat_lt b ((routine_start app k).0 + routine_count app k)) above below
+
+  source_point : (p : Point) (k : ℕ) (v : SourceVal) → source_fits app p k v ≡ true → SourceFitsPoint app p k v
+  source_point point.Halted k v e = out_is v e
+  source_point point.Idle k v e = out_is v e
+  source_point (point.Task b) k v e = out_is v e
+  source_point (point.Routine b over) k v e = λ own. elim (or_cases (not (is_of_routine app k b.0)) (is_in_at b v) e) [
+    | inl other ↦ absurd (not_true (is_of_routine app k b.0) other (is_routine k b.0 own))
+    | inr there ↦ in_is b v there
+  ]
+
+  point_source : (p : Point) (k : ℕ) (v : SourceVal) → SourceFitsPoint app p k v → source_fits app p k v ≡ true
+  point_source point.Halted k v h = ap is_out h
+  point_source point.Idle k v h = ap is_out h
+  point_source (point.Task b) k v h = ap is_out h
+  point_source (point.Routine b over) k v h = elim (cases_Bool (is_of_routine app k b.0)) [
+    | inl own ↦ or_right (not (is_of_routine app k b.0)) (is_in_at b v) (is_in b v (h (routine_is k b.0 own)))
+    | inr other ↦ or_left (not (is_of_routine app k b.0)) (is_in_at b v) (ap not other)
+  ]
+
   -- ---- values of components
 
-  is_below : (m n : ℕ) → m < n → nat_lt m n ≡ true
-  is_below m n lt = grind (arith, nat_tests)
+  part_may : (p : Point) (k : Component) (v : PartValue) → IsPart app p k v → may_be_by app p k v ≡ true
+  part_may p (component.Task t) (OfTask v) h = both_true (may_wait app t.0 v) (fits app p t.0 v) (val_waits t.0 v h.0) (point_fits p t.0 v h.1)
+  part_may p (component.Task t) (OfEvent b) h = refl
+  part_may p (component.Task t) (OfAlarm b) h = refl
+  part_may p (component.Task t) (OfSource v) h = refl
+  part_may p (component.Event t k) (OfTask v) h = refl
+  part_may p (component.Event t k) (OfEvent b) h = refl
+  part_may p (component.Event t k) (OfAlarm b) h = refl
+  part_may p (component.Event t k) (OfSource v) h = refl
+  part_may p (component.Alarm a) (OfTask v) h = refl
+  part_may p (component.Alarm a) (OfEvent b) h = refl
+  part_may p (component.Alarm a) (OfAlarm b) h = refl
+  part_may p (component.Alarm a) (OfSource v) h = refl
+  part_may p (component.Source k) (OfTask v) h = refl
+  part_may p (component.Source k) (OfEvent b) h = refl
+  part_may p (component.Source k) (OfAlarm b) h = refl
+  part_may p (component.Source k) (OfSource v) h = point_source p k.0 v h.1
 
-  part_may : (p : Point) (k : Component) → IsComponent app k → (v : PartValue) → IsPart app p k v → may_be app p (component_number app k) v ≡ true
-  part_may p (component.Task t) known (OfTask v) h =
-      both_true (nat_lt t.0 (length app.tasks)) (may_wait app t.0 v && fits app p t.0 v) (is_below t.0 (length app.tasks) known) (both_true (may_wait app t.0 v) (fits app p t.0 v) (val_waits t.0 v h.0) (point_fits p t.0 v h.1))
-  part_may p (component.Task t) known (OfEvent b) h = refl
-  part_may p (component.Task t) known (OfAlarm b) h = refl
-  part_may p (component.Event t k) known (OfTask v) h = absurd h
-  part_may p (component.Event t k) known (OfEvent b) h = refl
-  part_may p (component.Event t k) known (OfAlarm b) h = refl
-  part_may p (component.Alarm a) known (OfTask v) h = absurd h
-  part_may p (component.Alarm a) known (OfEvent b) h = refl
-  part_may p (component.Alarm a) known (OfAlarm b) h = refl
-
-  may_part : (p : Point) (k : Component) (v : PartValue) → IsWithin (domain_of app k) v → may_be app p (component_number app k) v ≡ true → IsPart app p k v
-  may_part p (component.Task t) (OfTask v) w e =
-      let first = and_parts (nat_lt t.0 (length app.tasks)) (may_wait app t.0 v && fits app p t.0 v) e in
-      let parts = and_parts (may_wait app t.0 v) (fits app p t.0 v) first.1 in
-      (is_val t.0 v w parts.0, fits_point p t.0 v parts.1)
+  may_part : (p : Point) (k : Component) (v : PartValue) → IsWithin (domain_of app k) v → may_be_by app p k v ≡ true → IsPart app p k v
+  may_part p (component.Task t) (OfTask v) w e = (let parts = and_parts (may_wait app t.0 v) (fits app p t.0 v) e in (is_val t.0 v w parts.0, fits_point p t.0 v parts.1))
   may_part p (component.Task t) (OfEvent b) w e = w
   may_part p (component.Task t) (OfAlarm b) w e = w
+  may_part p (component.Task t) (OfSource v) w e = w
   may_part p (component.Event t k) (OfTask v) w e = w
   may_part p (component.Event t k) (OfEvent b) w e = tt
   may_part p (component.Event t k) (OfAlarm b) w e = w
+  may_part p (component.Event t k) (OfSource v) w e = w
   may_part p (component.Alarm a) (OfTask v) w e = w
   may_part p (component.Alarm a) (OfEvent b) w e = w
   may_part p (component.Alarm a) (OfAlarm b) w e = tt
+  may_part p (component.Alarm a) (OfSource v) w e = w
+  may_part p (component.Source k) (OfTask v) w e = w
+  may_part p (component.Source k) (OfEvent b) w e = w
+  may_part p (component.Source k) (OfAlarm b) w e = w
+  may_part p (component.Source k) (OfSource v) w e = (is_source_val k.0 v w, source_point p k.0 v e)
 
-  allowed_may : (p : Point) (c : ℕ) (v : PartValue) → c < component_count app → IsAllowed app p c v → may_be app p c v ≡ true
-  allowed_may p c v lt h = subst (λ (n : ℕ). may_be app p n v ≡ true) (component_numbered app c lt) (part_may p (component_at app c) (component_known app c lt) v h)
+  allowed_may : (p : Point) (c : ℕ) (v : PartValue) → IsAllowed app p c v → may_be app p c v ≡ true
+  allowed_may p c v h = part_may p (component_at app c) v h
 
-  may_allowed : (p : Point) (c : ℕ) (v : PartValue) → c < component_count app → IsWithin (domain_of app (component_at app c)) v → may_be app p c v ≡ true → IsAllowed app p c v
-  may_allowed p c v lt w e = may_part p (component_at app c) v w (subst (λ (n : ℕ). may_be app p n v ≡ true) (sym (component_numbered app c lt)) e)
+  may_allowed : (p : Point) (c : ℕ) (v : PartValue) → IsWithin (domain_of app (component_at app c)) v → may_be app p c v ≡ true → IsAllowed app p c v
+  may_allowed p c v w e = may_part p (component_at app c) v w e
 
 -- ---- entries
 
@@ -205,8 +277,8 @@ module _ (app : App) (p : Point) (entry part : PlainEntry) (size : length entry.
   pub part_allowed : AreAllAllowed app p part
   part_allowed c v lt m =
       let parts = member_parts c v lt m in
-      may_allowed app p c v lt (within c v lt parts.0) parts.1
+      may_allowed app p c v (within c v lt parts.0) parts.1
 
   -- and the entry's allowed ones are among them
   pub in_part : (value : ℕ → PartValue) → AreIn app entry value → AreAllowed app p value → AreIn app part value
-  in_part value there allowed c lt = members_at c (value c) lt ∙ both_true (is_member (set_at entry c) (value c)) (may_be app p c (value c)) (there c lt) (allowed_may app p c (value c) lt (allowed c lt))
+  in_part value there allowed c lt = members_at c (value c) lt ∙ both_true (is_member (set_at entry c) (value c)) (may_be app p c (value c)) (there c lt) (allowed_may app p c (value c) (allowed c lt))

@@ -10,7 +10,7 @@ use Rattle.numbered_sets.specs.{Numbers.{Numbers, has_number}, NumberedEntries.{
 use Rattle.flow_exits.specs.declared.exit.Exit.{Exit}
 use Rattle.flow_rules.specs.declared.group.{NumberEnd.{NumberEnd}, Ends.{Ends}, ExitGroup.{ExitGroup}}
 use Rattle.flow_rules.specs.declared.group.Ends.TheVariants as ends
-use Rattle.flow_rules.specs.Groups.{holding, exits_by, exits_of, all_exits, AreNumbersThere, AreKnownEnds, IsKnownGroup, AreKnownGroups}
+use Rattle.flow_rules.specs.Groups.{holding, with_end, exits_by, exits_of, all_exits, AreNumbersThere, IsKnownEnd, AreKnownEnds, IsKnownGroup, AreKnownGroups}
 use Rattle.flow_rules.proofs.NumbersPassing.{domains_alike}
 
 -- some numbers alone are still those of values
@@ -40,6 +40,10 @@ module _ (pool : List Values) (entry : NumberedEntry) (c : ℕ) (x : Numbers) (l
   pub held_known : AreNumbersOf pool (holding entry c x)
   held_known = record { domains = domains_alike (holding entry c x).sets entry.sets (length-set entry.sets c x) same_domain ∙ known.domains; known = still_below }
 
+-- so it is with those of an end
+pub end_known : (pool : List Values) (entry : NumberedEntry) (x : NumberEnd) → AreNumbersOf pool entry → IsKnownEnd pool entry x → AreNumbersOf pool (with_end entry x)
+end_known pool entry x known these = held_known pool entry x.component x.numbers these.component known these.numbers
+
 map_same : {X : Type 0} (f g : X → Exit) (xs : List X) → ((x : X) → Among x xs → f x ≡ g x) → map f xs ≡ map g xs
 map_same f g [] h = refl
 map_same f g (x ∷ xs) h = ap₂ (λ (y : Exit) (ys : List Exit). y ∷ ys) (h x (inl refl)) (map_same f g xs (λ y m. h y (inr m)))
@@ -51,9 +55,9 @@ exit_by g p e = record { target = p; decision = g.decision; status = g.status; e
 module _ (pool after : List Values) (longer : IsLonger pool after) where
   ends_same : (g : ExitGroup) (e : Ends) → AreNumbersOf pool g.entry → AreKnownEnds pool g.entry e → exits_by after g e ≡ exits_by pool g e
   ends_same g (ends.At points) known h = ap (λ (x : PlainEntry). map (λ (p : Point). exit_by g p x) points) (same_view pool after g.entry longer known)
-  ends_same g (ends.With c xs) known h =
-      map_same (λ (x : NumberEnd). exit_by g x.target (plain_entry after (holding g.entry c x.numbers))) (λ (x : NumberEnd). exit_by g x.target (plain_entry pool (holding g.entry c x.numbers))) xs
-      (λ x m. ap (exit_by g x.target) (same_view pool after (holding g.entry c x.numbers) longer (held_known pool g.entry c x.numbers h.0 known (h.1 x (among_contained xs x m)))))
+  ends_same g (ends.With xs) known h =
+      map_same (λ (x : NumberEnd). exit_by g x.target (plain_entry after (with_end g.entry x))) (λ (x : NumberEnd). exit_by g x.target (plain_entry pool (with_end g.entry x))) xs
+      (λ x m. ap (exit_by g x.target) (same_view pool after (with_end g.entry x) longer (end_known pool g.entry x known (h x (among_contained xs x m)))))
 
   group_same : (g : ExitGroup) → IsKnownGroup pool g → exits_of after g ≡ exits_of pool g
   group_same g h = ends_same g g.ends h.numbers h.ends
@@ -65,9 +69,10 @@ module _ (pool after : List Values) (longer : IsLonger pool after) where
   pub exits_same : (groups : List ExitGroup) → AreKnownGroups pool groups → all_exits after groups ≡ all_exits pool groups
   exits_same groups h = same_by groups (λ g m. h g (among_contained groups g m))
 
-  known_ends : (entry : NumberedEntry) (e : Ends) → AreKnownEnds pool entry e → AreKnownEnds after entry e
+  pub known_ends : (entry : NumberedEntry) (e : Ends) → AreKnownEnds pool entry e → AreKnownEnds after entry e
   known_ends entry (ends.At points) h = tt
-  known_ends entry (ends.With c xs) h = (h.0, λ x m. (let these = h.1 x m in record { domain = these.domain; known = λ n has. known_longer c n (these.known n has) }))
+  known_ends entry (ends.With xs) h = λ x m.
+      (let these = h x m in record { component = these.component; numbers = record { domain = these.numbers.domain; known = λ n has. known_longer x.component n (these.numbers.known n has) } })
     where
       known_longer : (c n : ℕ) → n < length (values_at pool c) → n < length (values_at after c)
       known_longer c n lt = (let more = longer.values c in omega (arith, lt, ap length more.is, length-append (values_at pool c) more.more))

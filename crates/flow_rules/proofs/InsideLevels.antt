@@ -5,7 +5,7 @@ use Rattle.std.proofs.{Math.{ListN.{get_or-map}, Seq.{get_or-append_seam}}, lemm
 use Rattle.std.proofs.lemmas.List.{length-append, length-map, length-set, get_or_append_left, get_or_default, map-append, map-set, set-get_or, Elements.{All-get_or, Contains-append_left, Contains-append_right, Contains-push_cases}}
 use Rattle.osek_values.specs.{Numbers.{task_no}, declared.numbers.TaskNo.{TaskNo}}
 use Rattle.osek_standard.specs.{declared.app.App.{App}, Internal.{internal_of}}
-use Rattle.abstract_state.specs.declared.value.{Domain.{Domain}, Val.TheVariants.{Suspended, Live, Waiting}, PartValue.{PartValue, TheVariants.{OfTask, OfEvent, OfAlarm}}}
+use Rattle.abstract_state.specs.declared.value.{Domain.{Domain}, Val.TheVariants.{Suspended, Live, Waiting}, PartValue.{PartValue, TheVariants.{OfTask, OfEvent, OfAlarm, OfSource}}}
 use Rattle.abstract_state.specs.declared.value.Component.TheVariants as component
 use Rattle.abstract_state.specs.{ValueOrder.{same_part}, Domains.{IsWithin, domain_of}}
 use Rattle.flow_model.specs.declared.change.Update.TheVariants as update
@@ -41,6 +41,7 @@ within_task app t named (OfTask (Live x)) h = record { own = h.own; further = h.
 within_task app t named (OfTask (Waiting b)) h = h
 within_task app t named (OfEvent b) h = absurd h
 within_task app t named (OfAlarm b) h = absurd h
+within_task app t named (OfSource v) h = absurd h
 
 pub inside_within : (app : App) (pool : List Values) (t : ℕ) → domain_at pool t ≡ domain_of app (component.Task (task_no t)) → is_some (internal_of app t) ≡ true → (v : PartValue) → IsWithin (domain_at pool t) v → IsWithin (domain_at pool t) (goes_in v)
 inside_within app pool t is named v h =

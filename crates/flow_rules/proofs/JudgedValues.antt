@@ -6,8 +6,8 @@ use Rattle.std.proofs.lemmas.List.Elements.{All-set, All-contains, Contains-get_
 use Rattle.bit_words.proofs.BitCounts.{has_either, has_one}
 use Rattle.osek_values.specs.{Bits.{has_bit}, declared.numbers.BlockNo.{BlockNo}}
 use Rattle.osek_standard.specs.declared.app.App.{App}
-use Rattle.abstract_state.specs.{declared.value.{Domain.{Domain}, Val.{Val, TheVariants.{Suspended, Live, Waiting}}, PartValue.{PartValue, TheVariants.{OfTask, OfEvent, OfAlarm}}}, Concrete.{val_of}}
-use Rattle.flow_model.specs.{Values.{is_live_value, value_priority, at_block}, Tests.{on_task}}
+use Rattle.abstract_state.specs.{declared.value.{Domain.{Domain}, Val.{Val, TheVariants.{Suspended, Live, Waiting}}, PartValue.{PartValue, TheVariants.{OfTask, OfEvent, OfAlarm, OfSource}}}, Concrete.{val_of}}
+use Rattle.flow_model.specs.Values.{is_live_value, value_priority, restacked_part}
 use Rattle.numbered_sets.specs.{Numbers.{Numbers, numbers, has_number, with_number}, Pools.{IsNumberOf, IsBeside}}
 use Rattle.numbered_sets.proofs.KnownNumbers.{no_bit_of_none}
 use Rattle.flow_exits.specs.{declared.priority.Candidate.{Candidate}, Candidates.{candidate_of}}
@@ -52,12 +52,13 @@ is_live_at app u v o own read some = (let live = live_if_some app u (val_of v) o
 
 -- ---- a value beside another
 
-live_unmoved : (app : App) (u p : ℕ) (b : BlockNo) (v : PartValue) → IsLiveAt app u p (on_task (at_block b) v) → IsLiveAt app u p v
+live_unmoved : (app : App) (u p : ℕ) (b : BlockNo) (v : PartValue) → IsLiveAt app u p (restacked_part (λ h. h) b v) → IsLiveAt app u p v
 live_unmoved app u p b (OfTask Suspended) h = h
 live_unmoved app u p b (OfTask (Live x)) h = record { live = refl; priority = h.priority }
 live_unmoved app u p b (OfTask (Waiting c)) h = h
 live_unmoved app u p b (OfEvent x) h = h
 live_unmoved app u p b (OfAlarm x) h = h
+live_unmoved app u p b (OfSource x) h = record { live = h.live; priority = h.priority }
 
 -- it is at the level of that one
 pub placed_beside : (vs : List PartValue) (x : TaskLevels) (n m : ℕ) (found : Option ℕ) → IsBeside vs n m → IfSome found (λ k. k < length x.levels)

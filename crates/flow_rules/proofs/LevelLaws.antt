@@ -7,8 +7,9 @@ use Rattle.abstract_state.specs.{declared.{value.PartValue.{PartValue, TheVarian
 use Rattle.numbered_sets.specs.{declared.numbered_entry.NumberedEntry.{NumberedEntry}, Numbers.{Numbers, has_number}, NumberedEntries.{no_set, numbers_at, number_domains}}
 use Rattle.numbered_sets.specs.{Pools.{Values, values_at, IsExtended, IsLonger}, Views.{plain_set, plain_entry, AreNumbersOf}}
 use Rattle.numbered_sets.proofs.{PlainLaws.{member_of_plain, plain_set_at}, SiftLaws.{value_sifted}}
-use Rattle.flow_rules.specs.{declared.{task_levels.TaskLevels.{TaskLevels}, levels.Levels.{Levels}}, Levels.{IsLiveAt, AreOf, IsDead, AreTaskLevels, AreInsides, AreLevels, IsNarrowed}}
-use Rattle.flow_rules.proofs.InsideLevels.{insides_longer}
+use Rattle.flow_rules.specs.{declared.{task_levels.TaskLevels.{TaskLevels}, arrivals.Arrivals.{Arrivals}, levels.Levels.{Levels}}, Arrivals.{AreKnownArrivals}}
+use Rattle.flow_rules.specs.Levels.{IsLiveAt, AreOf, IsDead, AreTaskLevels, AreInsides, AreLevels, IsNarrowed}
+use Rattle.flow_rules.proofs.{InsideLevels.{insides_longer}, KnownArrivals.{no_arrivals}}
 
 -- ---- a pool that grew
 
@@ -32,7 +33,12 @@ levels_longer app pool after levels longer h = record {
   size = h.size;
   each = λ u d lt. task_levels_longer (values_at pool u) (values_at after u) (longer.values u) app u (get_or levels.tasks u d) (h.each u d lt);
   insides = insides_longer app pool after levels.insides longer h.insides;
+  arrivals = h.arrivals;
 }
+
+-- also with other rules that are kept
+pub levels_keeping : (app : App) (pool after : List Values) (levels : Levels) (kept : Arrivals) → IsLonger pool after → AreLevels app pool levels → AreKnownArrivals app kept.known → AreLevels app after (record levels { arrivals = kept })
+levels_keeping app pool after levels kept longer h known = (let now = levels_longer app pool after levels longer h in record { size = now.size; each = now.each; insides = now.insides; arrivals = known })
 
 -- ---- the levels of the first tasks
 
@@ -51,10 +57,15 @@ levels_next app pool k tasks x h each = record {
   ];
 }
 
-pub all_levels : (app : App) (pool : List Values) (levels : Levels) (k : ℕ) → AreLevelsUpTo app pool k levels.tasks → k ≡ length app.tasks → AreInsides app pool levels.insides → AreLevels app pool levels
-all_levels app pool levels k h whole insides = record { size = h.size ∙ whole; each = λ u d lt. h.each u d (omega (arith, lt, whole)); insides = insides }
+pub all_levels : (app : App) (pool : List Values) (levels : Levels) (k : ℕ) → AreLevelsUpTo app pool k levels.tasks → k ≡ length app.tasks → AreInsides app pool levels.insides → levels.arrivals.known ≡ [] → AreLevels app pool levels
+all_levels app pool levels k h whole insides none = record {
+  size = h.size ∙ whole;
+  each = λ u d lt. h.each u d (omega (arith, lt, whole));
+  insides = insides;
+  arrivals = subst (AreKnownArrivals app) (sym none) (no_arrivals app);
+}
 
-module _ (app : App) (pool : List Values) (levels after : Levels) (k : ℕ) (x : TaskLevels) (h : AreLevels app pool levels) (known : k < length app.tasks) (write : after.tasks ≡ set levels.tasks k x) (same : after.insides ≡ levels.insides) (its : AreTaskLevels app k (values_at pool k) x) where
+module _ (app : App) (pool : List Values) (levels after : Levels) (k : ℕ) (x : TaskLevels) (h : AreLevels app pool levels) (known : k < length app.tasks) (write : after.tasks ≡ set levels.tasks k x) (same : after.insides ≡ levels.insides) (kept : after.arrivals ≡ levels.arrivals) (its : AreTaskLevels app k (values_at pool k) x) where
   here : (u : ℕ) (d : TaskLevels) → u ≡ k → get_or after.tasks u d ≡ x
   here u d same = ap₂ (λ (xs : List TaskLevels) (j : ℕ). get_or xs j d) write same ∙ get_or-set_same levels.tasks k x d (omega (arith, known, h.size))
 
@@ -69,6 +80,7 @@ module _ (app : App) (pool : List Values) (levels after : Levels) (k : ℕ) (x :
       | inr differ ↦ subst (AreTaskLevels app u (values_at pool u)) (sym (there u d differ)) (h.each u d lt)
     ];
     insides = subst (AreInsides app pool) (sym same) h.insides;
+    arrivals = subst (λ (x : Arrivals). AreKnownArrivals app x.known) (sym kept) h.arrivals;
   }
 
   pub judged_with : x.judged ≡ length (values_at pool k) → ((u : ℕ) (d : TaskLevels) → u < k → (get_or levels.tasks u d).judged ≡ length (values_at pool u)) → (u : ℕ) (d : TaskLevels) → u < k + 1 → (get_or after.tasks u d).judged ≡ length (values_at pool u)
@@ -78,11 +90,12 @@ module _ (app : App) (pool : List Values) (levels after : Levels) (k : ℕ) (x :
   ]
 
 -- other values inside
-pub levels_beside : (app : App) (pool : List Values) (levels after : Levels) → after.tasks ≡ levels.tasks → AreInsides app pool after.insides → AreLevels app pool levels → AreLevels app pool after
-levels_beside app pool levels after same insides h = record {
+pub levels_beside : (app : App) (pool : List Values) (levels after : Levels) → after.tasks ≡ levels.tasks → after.arrivals ≡ levels.arrivals → AreInsides app pool after.insides → AreLevels app pool levels → AreLevels app pool after
+levels_beside app pool levels after same kept insides h = record {
   size = ap length same ∙ h.size;
   each = λ u d lt. subst (AreTaskLevels app u (values_at pool u)) (ap (λ (xs : List TaskLevels). get_or xs u d) (sym same)) (h.each u d lt);
   insides = insides;
+  arrivals = subst (λ (x : Arrivals). AreKnownArrivals app x.known) (sym kept) h.arrivals;
 }
 
 -- ---- what a narrowed entry means

@@ -1,6 +1,7 @@
 pub mod JudgedValues
 pub mod NarrowingLaws
 pub mod InsideLevels
+pub mod KnownArrivals
 pub mod LevelLaws
 pub mod Passing
 pub mod Assembling
@@ -28,6 +29,8 @@ pub mod SettledEntries
 pub mod SettledGroups
 pub mod SettlingSteps
 pub mod AddingEffects
+pub mod EntryCounts
+pub mod OutLaws
 pub mod ArrivingGroups
 pub mod LeavingPoints
 pub mod EffectDomains

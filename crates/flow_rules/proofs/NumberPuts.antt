@@ -26,9 +26,9 @@ module _ (x : Numbers) (n : ℕ) where
   has_still m has = has_with m ∙ ap (λ (b : Bool). b || (m == n)) has
 
 -- a new end
-module _ (d : Domain) (p : Point) (n : ℕ) (xs : List NumberEnd) where
+module _ (c : ℕ) (d : Domain) (p : Point) (n : ℕ) (xs : List NumberEnd) where
   abbrev first : NumberEnd
-  first = record { numbers = with_number (numbers d 0) n; target = p }
+  first = record { component = c; numbers = with_number (numbers d 0) n; target = p }
 
   only : (m : ℕ) → has_number first.numbers m ≡ true → m ≡ n
   only m has = eqb-true m n (sym (has_with (numbers d 0) n m ∙ ap (λ (b : Bool). b || (m == n)) (none_passes_bit m)) ∙ has)
@@ -43,14 +43,14 @@ module _ (d : Domain) (p : Point) (n : ℕ) (xs : List NumberEnd) where
     ];
   })
 
-  pub some_new : (ys : List NumberEnd) → ys ≡ xs ++ first ∷ [] → HaveNumbersOf d xs → HaveNumbersOf d ys
-  some_new ys pushed h = subst (HaveNumbersOf d) (sym pushed) (λ x m. elim (Contains-push_cases xs first x m) [
+  pub some_new : (ys : List NumberEnd) → ys ≡ xs ++ first ∷ [] → HaveNumbersOf c d xs → HaveNumbersOf c d ys
+  some_new ys pushed h = subst (HaveNumbersOf c d) (sym pushed) (λ x m. elim (Contains-push_cases xs first x m) [
     | inl old ↦ h x old
-    | inr same ↦ subst (HasNumbersOf d) same (record { domain = refl; some = number_fills first.numbers n (has_it (numbers d 0) n) })
+    | inr same ↦ subst (HasNumbersOf c d) same (record { component = refl; domain = refl; some = number_fills first.numbers n (has_it (numbers d 0) n) })
   ])
 
 -- an end that is there
-module _ (p : Point) (n : ℕ) (xs : List NumberEnd) (k : ℕ) (lt : k < length xs) (old new : NumberEnd) (at : (none : NumberEnd) → get_or xs k none ≡ old) (here : old.target ≡ p) (goes : new.target ≡ old.target) (more : new.numbers ≡ with_number old.numbers n) where
+module _ (p : Point) (n : ℕ) (xs : List NumberEnd) (k : ℕ) (lt : k < length xs) (old new : NumberEnd) (at : (none : NumberEnd) → get_or xs k none ≡ old) (here : old.target ≡ p) (of_it : new.component ≡ old.component) (goes : new.target ≡ old.target) (more : new.numbers ≡ with_number old.numbers n) where
   abbrev after : List NumberEnd
   after = set xs k new
 
@@ -111,8 +111,8 @@ module _ (p : Point) (n : ℕ) (xs : List NumberEnd) (k : ℕ) (lt : k < length 
   pub end_there : (ys : List NumberEnd) → ys ≡ set xs k new → IsNumberPut p n xs ys
   end_there ys is = subst (IsNumberPut p n xs) (sym is) put_there
 
-  pub some_there : (d : Domain) (ys : List NumberEnd) → ys ≡ set xs k new → HaveNumbersOf d xs → HaveNumbersOf d ys
-  some_there d ys is h = subst (HaveNumbersOf d) (sym is) (λ x m. elim (cases_eq m.0 k) [
-    | inl same ↦ subst (HasNumbersOf d) (is_new x m same) (record { domain = ap (λ (y : Numbers). y.domain) more ∙ (h old old_there).domain; some = number_fills new.numbers n has_put })
+  pub some_there : (c : ℕ) (d : Domain) (ys : List NumberEnd) → ys ≡ set xs k new → HaveNumbersOf c d xs → HaveNumbersOf c d ys
+  some_there c d ys is h = subst (HaveNumbersOf c d) (sym is) (λ x m. elim (cases_eq m.0 k) [
+    | inl same ↦ subst (HasNumbersOf c d) (is_new x m same) (record { component = of_it ∙ (h old old_there).component; domain = ap (λ (y : Numbers). y.domain) more ∙ (h old old_there).domain; some = number_fills new.numbers n has_put })
     | inr differ ↦ h x (other_before x m differ)
   ])

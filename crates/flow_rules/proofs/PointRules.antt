@@ -107,7 +107,7 @@ module _ (app : App) (p : Point) (entry : PlainEntry) (arrivals : List Rule) (a 
 
   passive_by_mark : (s : State) (choice : Bool) → IsNobodys p → IsAt app p entry s → (shows app s (Run choice) ≡ Silent → ⊥) → (m : Mark) → shows app s (Run choice) ≡ m → IsMatched app arrivals s (Run choice)
   passive_by_mark s choice h at loud Silent e = absurd (loud e)
-  passive_by_mark s choice h at loud Arrived e = (let k = shown_arrival app s (Run choice) e in arrival_covered app s at.well p arrivals (Run choice) a at.point k.source k.arrives choice refl)
+  passive_by_mark s choice h at loud Arrived e = (let k = shown_arrival app s (Run choice) e in arrival_covered app s at.well at.regular p arrivals (Run choice) a at.point k.source k.arrives choice refl)
   passive_by_mark s choice h at loud (Did o x) e = absurd (passive_by s s.processor p at.point h (shown_instruction app s (Run choice) o x e).active)
 
   pub passive_covering : IsNobodys p → Covering app p entry arrivals
@@ -129,7 +129,7 @@ module _ (app : App) (p : Point) (entry : PlainEntry) (arrivals : List Rule) (a 
     by_mark s choice at loud Silent e = absurd (loud e)
     by_mark s choice at loud Arrived e =
         let k = shown_arrival app s (Run choice) e in
-        let m = arrival_covered app s at.well p arrivals (Run choice) a at.point k.source k.arrives choice refl in
+        let m = arrival_covered app s at.well at.regular p arrivals (Run choice) a at.point k.source k.arrives choice refl in
         record { rule = m.rule; listed = i.added.kept m.rule m.listed; matches = m.matches }
     by_mark s choice at loud (Did o x) e = instruction_covered app p entry i.effects arrivals rules i.added i.stays i.covering s (Run choice) o x at (shown_instruction app s (Run choice) o x e) e
 

@@ -1,15 +1,15 @@
 -- Changes to one value: the set that it leaves has that value's number alone.
-use Rattle.std.proofs.Common.{◌≡◌, ℕ, ◌<◌, ◌^◌, Bool, false, ◌||◌, List, [], ◌∷◌, refl, sym, ap, subst, ◌∙◌, inl, inr, arith, IsTrue}
-use Rattle.std.specs.{Prelude.{◌==◌}, List.{list_any}}
+use Rattle.std.proofs.Common.{◌≡◌, ℕ, ◌<◌, ◌^◌, Bool, true, false, ◌||◌, List, [], ◌∷◌, refl, sym, ap, subst, ◌∙◌, inl, inr, arith, IsTrue}
+use Rattle.std.specs.{Prelude.{◌==◌}, Bool.{OnTrue}, List.{list_any}}
 use Rattle.std.proofs.lemmas.Bool.{cases_eq, eqb-true, eq-eqb}
 use Rattle.bit_words.proofs.BitCounts.{has_either, has_one}
 use Rattle.osek_values.specs.Bits.{has_bit}
-use Rattle.abstract_state.specs.{declared.value.PartValue.{PartValue}, ValueOrder.{same_part}, Tables.{is_member}}
+use Rattle.abstract_state.specs.{declared.value.{Domain.{Domain}, PartValue.{PartValue}}, ValueOrder.{same_part}, Tables.{is_member}}
 use Rattle.abstract_state.proofs.OrderLaws.{part_right, part_itself}
 use Rattle.flow_model.specs.{declared.change.Change.{Change}, Tests.{value_after}}
-use Rattle.numbered_sets.specs.{Numbers.{Numbers, numbers, has_number, with_number}, Pools.{Values, values_at, IsNumberOf}, Views.{values_with, plain_set}}
+use Rattle.numbered_sets.specs.{Numbers.{Numbers, numbers, has_number, with_number}, Pools.{Values, values_at, domain_at, IsNumberOf}, Views.{values_with, plain_set}}
 use Rattle.numbered_sets.proofs.{PlainLaws.{ascending_in_order, member_of_plain, values_with_none}, ViewLaws.{only_value}, KnownNumbers.{no_bit_of_none}}
-use Rattle.flow_rules.specs.{Applying.{IsPassedSet}, Changing.{making}}
+use Rattle.flow_rules.specs.{Applying.{IsPassedSet, IsAloneIn}, Changing.{making}}
 use Rattle.flow_rules.proofs.NumbersPassing.{none_passes_bit}
 
 -- numbers of nothing have no value
@@ -52,6 +52,18 @@ module _ (xs : List Change) (before : List Values) (c : ℕ) (old : Numbers) (af
       to = λ w m p. subst (λ (u : PartValue). IsTrue (is_member (plain_set (values_at after c) (with_number (numbers old.domain 0) n)) u)) (sym (sets w)) (its_member v ∙ part_itself v);
     };
   }
+
+-- so it is with the set of that number alone
+pub alone_passed : (xs : List Change) (pool : List Values) (c : ℕ) (old : Numbers) (v : PartValue) → ((w : PartValue) → value_after xs c w ≡ v) → (some : PartValue) → IsTrue (is_member (plain_set (values_at pool c) old) some) →
+    old.domain ≡ domain_at pool c → (made : Numbers) → IsAloneIn pool c v made → IsPassedSet (making xs) pool c old pool made
+alone_passed xs pool c old v sets some there like made alone =
+    subst (IsPassedSet (making xs) pool c old pool) (ap (λ (d : Domain). with_number (numbers d 0) alone.number) like ∙ sym alone.only)
+    (set_passed xs pool c old pool alone.number v sets some there alone.is)
+
+-- a value that is the same as one with a number has it
+pub same_number : (b : Bool) (vs : List PartValue) (v w : PartValue) (n : ℕ) → b ≡ same_part v w → IsNumberOf vs v n → OnTrue b (IsNumberOf vs w n)
+same_number true vs v w n e h = subst (λ (u : PartValue). IsNumberOf vs u n) (part_right v w (sym e)) h
+same_number false vs v w n e h = tt
 
 pub some_left : (x : Numbers) → (x.bits == 0) ≡ false → 0 < x.bits
 some_left x none = elim (cases_eq x.bits 0) [

@@ -7,18 +7,18 @@ use Rattle.osek_standard.proofs.Members.{Among, among_map, map_among, among_flat
 use Rattle.abstract_state.specs.{declared.value.PartValue.{PartValue}, Components.{component_count}, Tables.{set_at, is_member}}
 use Rattle.flow_model.specs.declared.case.{Decision.{Decision}, Leaving.{Leaving}}
 use Rattle.flow_model.specs.{Effects.{AreIn, stay_point}, Scheduling.{Decides, end_point, goes_inside}}
-use Rattle.numbered_sets.specs.{declared.numbered_entry.NumberedEntry.{NumberedEntry}, NumberedEntries.{numbers_at}, Pools.{Values, values_at}, Views.{plain_entry}}
+use Rattle.numbered_sets.specs.{declared.numbered_entry.NumberedEntry.{NumberedEntry}, Numbers.{Numbers}, NumberedEntries.{numbers_at}, Pools.{Values, values_at}, Views.{plain_entry}}
 use Rattle.flow_exits.specs.{declared.exit.Exit.{Exit}, Exits.{IsFilled}, Leaving.{IsDecided, HasDecided, AddsDecided}}
 use Rattle.flow_rules.specs.declared.group.{NumberEnd.{NumberEnd}, Ends.{Ends}, ExitGroup.{ExitGroup}}
 use Rattle.flow_rules.specs.declared.group.Ends.TheVariants as ends
-use Rattle.flow_rules.specs.{Groups.{holding, exit_at, exits_by, exits_of, all_exits, AreNumbersThere, AreKnownEnds, IsKnownGroup, AreKnownGroups}, Deciding.{AddsFor, IsAny, IsUnsettled, HasUnsettled}}
+use Rattle.flow_rules.specs.{Groups.{holding, with_end, exit_at, exits_by, exits_of, all_exits, AreNumbersThere, IsKnownEnd, AreKnownEnds, IsKnownGroup, AreKnownGroups}, Deciding.{AddsFor, IsAny, IsUnsettled, HasUnsettled}}
 use Rattle.flow_rules.specs.Settling.{AreSettled, IsSettledEntry, IsSettledEnd, AreSettledEnds, IsSettledBy, IsSettledFor, AreSettledFrom}
 use Rattle.flow_rules.proofs.SettledEntries.{settled_if, IsSettledOf, settled_in, settled_from, settled_filled, settled_known, settled_held, settled_domain, settled_below}
 
 -- the exits of a group have its decision
 exit_decision : (pool : List Values) (g : ExitGroup) (xs : Ends) (x : Exit) → Among x (exits_by pool g xs) → x.decision ≡ g.decision
 exit_decision pool g (ends.At points) x m = (let k = map_among (exit_at pool g g.entry) x points m in ap (λ (y : Exit). y.decision) k.2)
-exit_decision pool g (ends.With c xs) x m = (let k = map_among (λ (e : NumberEnd). exit_at pool g (holding g.entry c e.numbers) e.target) x xs m in ap (λ (y : Exit). y.decision) k.2)
+exit_decision pool g (ends.With xs) x m = (let k = map_among (λ (e : NumberEnd). exit_at pool g (with_end g.entry e) e.target) x xs m in ap (λ (y : Exit). y.decision) k.2)
 
 module _ (app : App) (goes : ℕ → Bool) (pool : List Values) where
   -- the second exit is the first one, settled
@@ -51,15 +51,15 @@ module _ (app : App) (goes : ℕ → Bool) (pool : List Values) where
       listed : Among exit ys
       settled : IsSettledExit x exit
 
-    abbrev end_exit : ExitGroup → ℕ → NumberEnd → Exit
-    end_exit group c e = exit_at pool group (holding group.entry c e.numbers) e.target
+    abbrev end_exit : ExitGroup → NumberEnd → Exit
+    end_exit group e = exit_at pool group (with_end group.entry e) e.target
 
     -- an end and the settled one
-    module _ (c j : ℕ) (same : j ≡ c) (there : c < length g.entry.sets) (e f : NumberEnd) (s : IsSettledEnd (goes c) (values_at pool c) e f) where
-      end_settled : IsSettledExit (end_exit g c e) (end_exit k j f)
+    module _ (e f : NumberEnd) (there : e.component < length g.entry.sets) (s : IsSettledEnd goes pool e f) where
+      end_settled : IsSettledExit (end_exit g e) (end_exit k f)
       end_settled =
-          subst (λ (i : ℕ). IsSettledExit (end_exit g c e) (end_exit k i f)) (sym same)
-          (settled_exit (holding g.entry c e.numbers) (holding k.entry c f.numbers) e.target f.target s.target (settled_held goes pool g.entry k.entry h.entry c e.numbers f.numbers there s.numbers))
+          subst (λ (i : ℕ). IsSettledExit (end_exit g e) (exit_at pool k (holding k.entry i f.numbers) f.target)) (sym s.component)
+          (settled_exit (with_end g.entry e) (holding k.entry e.component f.numbers) e.target f.target s.target (settled_held goes pool g.entry k.entry h.entry e.component e.numbers f.numbers there s.numbers))
 
     before_at : (xs ys : Ends) → AreSettledEnds goes pool xs ys → AreKnownEnds pool g.entry xs → (y : Exit) → Among y (exits_by pool k ys) → HasBefore y (exits_by pool g xs)
     before_at (ends.At ps) ys e known y m =
@@ -69,17 +69,18 @@ module _ (app : App) (goes : ℕ → Bool) (pool : List Values) where
           listed = among_map (exit_at pool g g.entry) p.0 ps p.1;
           settled = subst (IsSettledExit (exit_at pool g g.entry p.0)) (sym p.2) (settled_exit g.entry k.entry p.0 p.0 refl h.entry);
         }
-    before_at (ends.With c xs) (ends.At ps) e known y m = absurd e
-    before_at (ends.With c xs) (ends.With j ys) e known y m =
-        let f = map_among (end_exit k j) y ys m in
+    before_at (ends.With xs) (ends.At ps) e known y m = absurd e
+    before_at (ends.With xs) (ends.With ys) e known y m =
+        let f = map_among (end_exit k) y ys m in
         let at = among_contained ys f.0 f.1 in
-        let lt : at.0 < length xs = omega (arith, at.1, e.1.size) in
+        let lt : at.0 < length xs = omega (arith, at.1, e.size) in
         let x : NumberEnd = get_or xs at.0 f.0 in
-        let s : IsSettledEnd (goes c) (values_at pool c) x f.0 = subst (IsSettledEnd (goes c) (values_at pool c) x) at.2 (e.1.each at.0 f.0 lt) in
+        let listed : Contains xs x = (at.0, lt, get_or_default xs at.0 x f.0 lt) in
+        let s : IsSettledEnd goes pool x f.0 = subst (IsSettledEnd goes pool x) at.2 (e.each at.0 f.0 lt) in
         record {
-          exit = end_exit g c x;
-          listed = among_map (end_exit g c) x xs (contained_among xs x (at.0, lt, get_or_default xs at.0 x f.0 lt));
-          settled = subst (IsSettledExit (end_exit g c x)) (sym f.2) (end_settled c j e.0 known.0 x f.0 s);
+          exit = end_exit g x;
+          listed = among_map (end_exit g) x xs (contained_among xs x listed);
+          settled = subst (IsSettledExit (end_exit g x)) (sym f.2) (end_settled x f.0 (known x listed).component s);
         }
 
     after_at : (xs ys : Ends) → AreSettledEnds goes pool xs ys → AreKnownEnds pool g.entry xs → (x : Exit) → Among x (exits_by pool g xs) → HasAfter x (exits_by pool k ys)
@@ -90,42 +91,41 @@ module _ (app : App) (goes : ℕ → Bool) (pool : List Values) where
           listed = subst (λ (zs : Ends). Among (exit_at pool k k.entry p.0) (exits_by pool k zs)) (sym e) (among_map (exit_at pool k k.entry) p.0 ps p.1);
           settled = subst (λ (z : Exit). IsSettledExit z (exit_at pool k k.entry p.0)) (sym p.2) (settled_exit g.entry k.entry p.0 p.0 refl h.entry);
         }
-    after_at (ends.With c xs) (ends.At ps) e known x m = absurd e
-    after_at (ends.With c xs) (ends.With j ys) e known x m =
-        let f = map_among (end_exit g c) x xs m in
+    after_at (ends.With xs) (ends.At ps) e known x m = absurd e
+    after_at (ends.With xs) (ends.With ys) e known x m =
+        let f = map_among (end_exit g) x xs m in
         let at = among_contained xs f.0 f.1 in
-        let lt : at.0 < length ys = omega (arith, at.1, e.1.size) in
+        let lt : at.0 < length ys = omega (arith, at.1, e.size) in
         let y : NumberEnd = get_or ys at.0 f.0 in
-        let s : IsSettledEnd (goes c) (values_at pool c) f.0 y = subst (λ (z : NumberEnd). IsSettledEnd (goes c) (values_at pool c) z y) at.2 (e.1.each at.0 f.0 at.1) in
+        let s : IsSettledEnd goes pool f.0 y = subst (λ (z : NumberEnd). IsSettledEnd goes pool z y) at.2 (e.each at.0 f.0 at.1) in
         record {
-          exit = end_exit k j y;
-          listed = among_map (end_exit k j) y ys (contained_among ys y (at.0, lt, get_or_default ys at.0 y f.0 lt));
-          settled = subst (λ (z : Exit). IsSettledExit z (end_exit k j y)) (sym f.2) (end_settled c j e.0 known.0 f.0 y s);
+          exit = end_exit k y;
+          listed = among_map (end_exit k) y ys (contained_among ys y (at.0, lt, get_or_default ys at.0 y f.0 lt));
+          settled = subst (λ (z : Exit). IsSettledExit z (end_exit k y)) (sym f.2) (end_settled f.0 y (known f.0 at).component s);
         }
 
     -- its numbers are those of values
     module _ (known : IsKnownGroup pool g) where
-      end_known : (c j : ℕ) → j ≡ c → (e f : NumberEnd) → AreSettled (goes c) (values_at pool c) e.numbers f.numbers → AreNumbersThere pool g.entry c e.numbers → AreNumbersThere pool k.entry j f.numbers
-      end_known c j same e f s these =
-          subst (λ (i : ℕ). AreNumbersThere pool k.entry i f.numbers) (sym same)
-          (record {
-            domain = settled_domain (goes c) (values_at pool c) e.numbers f.numbers s ∙ these.domain
-                ∙ sym (settled_domain (goes c) (values_at pool c) (numbers_at g.entry c) (numbers_at k.entry c) (h.entry.each c));
-            known = settled_below (goes c) (values_at pool c) e.numbers f.numbers these.known s;
-          })
+      numbers_there : (c : ℕ) (e f : Numbers) → AreSettled (goes c) (values_at pool c) e f → AreNumbersThere pool g.entry c e → AreNumbersThere pool k.entry c f
+      numbers_there c e f s these = record {
+        domain = settled_domain (goes c) (values_at pool c) e f s ∙ these.domain ∙ sym (settled_domain (goes c) (values_at pool c) (numbers_at g.entry c) (numbers_at k.entry c) (h.entry.each c));
+        known = settled_below (goes c) (values_at pool c) e f these.known s;
+      }
+
+      end_known : (e f : NumberEnd) → IsSettledEnd goes pool e f → IsKnownEnd pool g.entry e → IsKnownEnd pool k.entry f
+      end_known e f s these = record {
+        component = (let lt = these.component in omega (arith, lt, s.component, h.entry.size));
+        numbers = subst (λ (i : ℕ). AreNumbersThere pool k.entry i f.numbers) (sym s.component) (numbers_there e.component e.numbers f.numbers s.numbers these.numbers);
+      }
 
       ends_known : (xs ys : Ends) → AreSettledEnds goes pool xs ys → AreKnownEnds pool g.entry xs → AreKnownEnds pool k.entry ys
       ends_known (ends.At ps) ys e these = subst (AreKnownEnds pool k.entry) (sym e) tt
-      ends_known (ends.With c xs) (ends.At ps) e these = absurd e
-      ends_known (ends.With c xs) (ends.With j ys) e these = (
-        (let lt = these.0 in omega (arith, lt, e.0, h.entry.size)),
-        λ f m.
-            (let n = m.2 in
-            let lt : m.0 < length xs = omega (arith, m.1, e.1.size) in
-            let x : NumberEnd = get_or xs m.0 f in
-            let s : IsSettledEnd (goes c) (values_at pool c) x f = subst (IsSettledEnd (goes c) (values_at pool c) x) m.2 (e.1.each m.0 f lt) in
-            end_known c j e.0 x f s.numbers (these.1 x (m.0, lt, get_or_default xs m.0 x f lt))),
-      )
+      ends_known (ends.With xs) (ends.At ps) e these = absurd e
+      ends_known (ends.With xs) (ends.With ys) e these = λ f m.
+          (let lt : m.0 < length xs = omega (arith, m.1, e.size) in
+          let x : NumberEnd = get_or xs m.0 f in
+          let s : IsSettledEnd goes pool x f = subst (IsSettledEnd goes pool x) m.2 (e.each m.0 f lt) in
+          end_known x f s (these x (m.0, lt, get_or_default xs m.0 x f lt)))
 
       pub group_known : IsKnownGroup pool k
       group_known = record {

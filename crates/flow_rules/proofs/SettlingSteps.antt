@@ -22,7 +22,10 @@ module _ (goes : ℕ → Bool) (none : (c : ℕ) → goes c ≡ false) (pool : L
 
   same_ends : (xs : Ends) → AreSettledEnds goes pool xs xs
   same_ends (ends.At points) = refl
-  same_ends (ends.With c xs) = (refl, record { size = refl; each = λ i d lt. record { target = refl; numbers = same_numbers c (values_at pool c) (get_or xs i d).numbers } })
+  same_ends (ends.With xs) = record {
+    size = refl;
+    each = λ i d lt. (let e = get_or xs i d in record { component = refl; target = refl; numbers = same_numbers e.component (values_at pool e.component) e.numbers });
+  }
 
   pub settled_none : (g : ExitGroup) → IsSettledBy goes pool g g
   settled_none g = record {
@@ -77,27 +80,27 @@ module _ (app : App) (x : Stay) (d : Decision) where
 
 -- ---- one end after another
 
-module _ (vs : List PartValue) (before : List NumberEnd) where
+module _ (goes : ℕ → Bool) (pool : List Values) (before : List NumberEnd) where
   pub record AreEndsUpTo (k : ℕ) (after : List NumberEnd) : Type 0 where
     pub size : length after ≡ length before
-    pub done : (i : ℕ) (d : NumberEnd) → i < k → IsSettledEnd true vs (get_or before i d) (get_or after i d)
+    pub done : (i : ℕ) (d : NumberEnd) → i < k → IsSettledEnd goes pool (get_or before i d) (get_or after i d)
     pub later : (i : ℕ) (d : NumberEnd) → k ≤ i → get_or after i d ≡ get_or before i d
 
   pub ends_begun : AreEndsUpTo 0 before
   ends_begun = record { size = refl; done = λ i d lt. absurd (omega (arith, lt)); later = λ i d past. refl }
 
-  pub ends_ended : (k : ℕ) (after : List NumberEnd) → length before ≤ k → AreEndsUpTo k after → AreSettledEach true vs before after
+  pub ends_ended : (k : ℕ) (after : List NumberEnd) → length before ≤ k → AreEndsUpTo k after → AreSettledEach goes pool before after
   ends_ended k after past h = record { size = h.size; each = λ i d lt. h.done i d (omega (arith, lt, past)) }
 
-  pub ends_next : (k : ℕ) (after : List NumberEnd) (x y : NumberEnd) → k < length before → ((d : NumberEnd) → get_or after k d ≡ x) → AreEndsUpTo k after → IsSettledEnd true vs x y → AreEndsUpTo (k + 1) (set after k y)
+  pub ends_next : (k : ℕ) (after : List NumberEnd) (x y : NumberEnd) → k < length before → ((d : NumberEnd) → get_or after k d ≡ x) → AreEndsUpTo k after → IsSettledEnd goes pool x y → AreEndsUpTo (k + 1) (set after k y)
   ends_next k after x y lt at h is = record {
     size = length-set after k y ∙ h.size;
     done = λ i d below. elim (cases_eq i k) [
       | inl same ↦
-          subst (λ (j : ℕ). IsSettledEnd true vs (get_or before j d) (get_or (set after k y) j d)) (sym same)
-          (subst (λ (e : NumberEnd). IsSettledEnd true vs e (get_or (set after k y) k d)) (sym (at d) ∙ h.later k d (omega arith))
-          (subst (IsSettledEnd true vs x) (sym (get_or-set_same after k y d (omega (arith, lt, h.size)))) is))
-      | inr other ↦ subst (IsSettledEnd true vs (get_or before i d)) (sym (get_or-set_other after k i y d other)) (h.done i d (omega (arith, below, other)))
+          subst (λ (j : ℕ). IsSettledEnd goes pool (get_or before j d) (get_or (set after k y) j d)) (sym same)
+          (subst (λ (e : NumberEnd). IsSettledEnd goes pool e (get_or (set after k y) k d)) (sym (at d) ∙ h.later k d (omega arith))
+          (subst (IsSettledEnd goes pool x) (sym (get_or-set_same after k y d (omega (arith, lt, h.size)))) is))
+      | inr other ↦ subst (IsSettledEnd goes pool (get_or before i d)) (sym (get_or-set_other after k i y d other)) (h.done i d (omega (arith, below, other)))
     ];
     later = λ i d above. get_or-set_other after k i y d (beyond i above) ∙ h.later i d (omega (arith, above));
   }
@@ -122,14 +125,20 @@ module _ (t : ℕ) (pool : List Values) where
     ];
   }
 
-  pub ends_beside : (c : ℕ) (xs : List NumberEnd) → c ≢ t → AreSettledEnds (λ k. k == t) pool (ends.With c xs) (ends.With c xs)
-  ends_beside c xs other = (refl, subst (λ (b : Bool). AreSettledEach b (values_at pool c) xs xs) (sym (ne_eqb c t other)) (record { size = refl; each = λ i d lt. record { target = refl; numbers = refl } }))
+  pub end_beside : (e : NumberEnd) → e.component ≢ t → IsSettledEnd (λ k. k == t) pool e e
+  end_beside e other = record {
+    component = refl;
+    target = refl;
+    numbers = subst (λ (b : Bool). AreSettled b (values_at pool e.component) e.numbers e.numbers) (sym (ne_eqb e.component t other)) refl;
+  }
 
-  pub ends_there : (c : ℕ) (xs ys : List NumberEnd) → c ≡ t → AreSettledEach true (values_at pool t) xs ys → AreSettledEnds (λ k. k == t) pool (ends.With c xs) (ends.With c ys)
-  ends_there c xs ys same each = (
-    refl,
-    subst (λ (k : ℕ). AreSettledEach (k == t) (values_at pool k) xs ys) (sym same) (subst (λ (b : Bool). AreSettledEach b (values_at pool t) xs ys) (sym (eq-eqb t t refl)) each),
-  )
+  pub end_there : (e : NumberEnd) (x : Numbers) → e.component ≡ t → AreMade (updated update.Inside) (values_at pool t) e.numbers (length (values_at pool t)) x → IsSettledEnd (λ k. k == t) pool e (record e { numbers = x })
+  end_there e x same made = record {
+    component = refl;
+    target = refl;
+    numbers =
+        subst (λ (k : ℕ). AreSettled (k == t) (values_at pool k) e.numbers x) (sym same) (subst (λ (b : Bool). AreSettled b (values_at pool t) e.numbers x) (sym (eq-eqb t t refl)) made);
+  }
 
   pub ends_at : (e : Ends) (points : List Point) → e ≡ ends.At points → AreSettledEnds (λ k. k == t) pool e e
   ends_at e points is = subst (λ (f : Ends). AreSettledEnds (λ k. k == t) pool f f) (sym is) refl

@@ -1,7 +1,7 @@
 -- What conditions leave of sets of numbers, and what a rule without changes makes of them.
-use Rattle.std.proofs.Common.{◌≡◌, ℕ, ◌<◌, Bool, true, false, not, ◌||◌, ◌&&◌, List, [], ◌∷◌, ◌++◌, length, get_or, refl, sym, ap, ap₂, ◌∙◌, inl, inr, arith, IsTrue}
+use Rattle.std.proofs.Common.{◌≡◌, ℕ, ◌+◌, ◌<◌, ◌≤◌, Bool, true, false, not, ◌||◌, ◌&&◌, List, [], ◌∷◌, ◌++◌, length, get_or, refl, sym, ap, ap₂, ◌∙◌, inl, inr, arith, IsTrue}
 use Rattle.std.specs.List.{list_any}
-use Rattle.std.proofs.{Math.ListN.{get_or-eq_default}, lemmas.{Bool.{cases_lt, and_parts, or_left, eq-eqb}, List.Folds.{list_any-append, list_any_at}}}
+use Rattle.std.proofs.{Math.ListN.{get_or-eq_default}, lemmas.{Bool.{cases_lt, cases_order, and_parts, or_left, eq-eqb, false≢true}, List.Folds.{list_any-append, list_any_at}}}
 use Rattle.osek_values.specs.Bits.{has_bit}
 use Rattle.abstract_state.specs.{declared.{value.PartValue.{PartValue}, table.ValueSet.{ValueSet}}, ValueOrder.{same_part}, Tables.{is_member}}
 use Rattle.abstract_state.proofs.OrderLaws.{part_right}
@@ -9,10 +9,10 @@ use Rattle.flow_model.specs.declared.{test.{Test.{Test}, Condition.{Condition}},
 use Rattle.flow_model.specs.declared.test.Test.TheVariants as test
 use Rattle.flow_model.specs.{Tests.{passes, is_failed, PassesAt}, Rules.{HasNone}}
 use Rattle.numbered_sets.specs.{declared.numbered_entry.NumberedEntry.{NumberedEntry}, Numbers.{Numbers, has_number}}
-use Rattle.numbered_sets.specs.{NumberedEntries.{no_set, numbers_at, number_domains, AreFilled, HasEmptySet}, Pools.{Values, values_at}}
+use Rattle.numbered_sets.specs.{NumberedEntries.{no_set, numbers_at, number_domains, AreFilled, HasEmptySet}, Pools.{Values, values_at, IsNumberOf}}
 use Rattle.numbered_sets.specs.Views.{values_with, plain_set, plain_entry, AreNumbersOf}
 use Rattle.numbered_sets.proofs.{PlainLaws.{ascending_in_order, member_of_plain, values_with_none, plain_set_at, length_plain}, ViewLaws.{false_unless}}
-use Rattle.numbered_sets.proofs.{KnownNumbers.{no_bit_of_none}, NumberingLaws.{longer_itself}, SiftLaws.{some_value}}
+use Rattle.numbered_sets.proofs.{KnownNumbers.{found, no_bit_of_none}, NumberingLaws.{longer_itself}, SiftLaws.{some_value}}
 use Rattle.flow_rules.proofs.Passing.{none_fails, each_passes}
 use Rattle.flow_rules.specs.{Passing.{AreTaken}, Applying.{IsPassedSet}, Changing.{up_to, AreAllPassed}, Sifting.{AreSifted, LeavesNone}}
 use Rattle.flow_rules.proofs.NumbersPassing.{domains_alike}
@@ -134,6 +134,36 @@ wants_missing pool x w entry is known missing = record {
       false_unless (same_part v w) ⊥ (λ same. (let there = ap (is_member (plain_set (values_at pool x.component.0) (numbers_at entry x.component.0))) (sym (part_right v w same)) ∙ m in absurd (cc))) (λ no. no) in
       ap₂ (λ (a b : Bool). (a && not b) || false) (eq-eqb x.component.0 x.component.0 refl) (ap (λ (t : Test). passes t v) is ∙ other));
 }
+
+-- ---- a set with one value alone, or none
+
+module _ (pool : List Values) (entry : NumberedEntry) (x : Condition) (c : ℕ) (at : x.component.0 ≡ c) (lt : c < length entry.sets) where
+  abbrev has : ℕ → Bool
+  has n = has_number (numbers_at entry c) n
+
+  abbrev IsThere : PartValue → Type 0
+  IsThere v = IsTrue (is_member (plain_set (values_at pool c) (numbers_at entry c)) v)
+
+  each_fails : ((v : PartValue) → IsThere v → passes x.test v ≡ false) → LeavesNone pool (x ∷ []) entry
+  each_fails h = record { component = c; known = lt; none = λ v m. ap₂ (λ (a b : Bool). (a && not b) || false) (eq-eqb x.component.0 c at) (h v m) }
+
+  -- it has no number below the first, which is past all values
+  pub none_there : (first : ℕ) → length (values_at pool c) ≤ first → ((n : ℕ) → 0 ≤ n → n < first → has n ≡ false) → LeavesNone pool (x ∷ []) entry
+  none_there first past none = each_fails (λ v m.
+      (let f = found (values_at pool c) (has_number (numbers_at entry c)) v (sym (member_of_plain (values_at pool c) (numbers_at entry c) v) ∙ m) in
+      let not : has f.number ≡ false = none f.number (omega arith) (omega (arith, f.known, past)) in
+      absurd (false≢true (sym not ∙ f.there))))
+
+  -- or that of one value alone, which fails
+  pub alone_fails : (first : ℕ) (w : PartValue) → IsNumberOf (values_at pool c) w first → ((n : ℕ) → 0 ≤ n → n < first → has n ≡ false) → ((n : ℕ) → first + 1 ≤ n → n < length (values_at pool c) → has n ≡ false) → passes x.test w ≡ false
+      → LeavesNone pool (x ∷ []) entry
+  alone_fails first w is before behind fails = each_fails (λ v m.
+      (let f = found (values_at pool c) (has_number (numbers_at entry c)) v (sym (member_of_plain (values_at pool c) (numbers_at entry c) v) ∙ m) in
+      elim (cases_order f.number first) [
+        | inl same ↦ (let its : v ≡ w = sym (f.is v) ∙ ap (λ (n : ℕ). get_or (values_at pool c) n v) same ∙ is.is v in ap (passes x.test) its ∙ fails)
+        | inr (inl below) ↦ absurd (false≢true (sym (before f.number (omega arith) below) ∙ f.there))
+        | inr (inr above) ↦ absurd (false≢true (sym (behind f.number (omega (arith, above)) f.known) ∙ f.there))
+      ]))
 
 pub none_taken : (pool : List Values) (rule : Rule) (entry : NumberedEntry) → LeavesNone pool rule.conditions entry → HasNone rule (plain_entry pool entry)
 none_taken pool rule entry h = record {

@@ -1,6 +1,6 @@
 -- The row of a start: the start is in it, and each inductive table has it.
 use Rattle.std.proofs.Common.{◌≡◌, ℕ, ◌<◌, true, List, [], ◌∷◌, length, map, get_or, IsTrue, refl, sym, ap, subst, ◌∙◌, inl, inr, arith, Result, Ok, Err}
-use Rattle.std.proofs.lemmas.{Bool.{or_cases, or_left}, List.{get_or-map, get_or_default, Elements.{All-map}}}
+use Rattle.std.proofs.lemmas.{Bool.{or_cases, or_left}, List.{get_or-map, Elements.{All-map}}}
 use Rattle.std.specs.Prelude.{IfOk}
 use Rattle.osek_values.specs.{Numbers.{alarm_no}, declared.{memory.Memory.{Memory}, numbers.ModeNo.{ModeNo}}}
 use Rattle.osek_standard.specs.{declared.{app.App.{App}, state.State.{State}}, Kernel.{start}, Points.{point_of}, Well.{Well}}
@@ -10,7 +10,7 @@ use Rattle.abstract_state.specs.declared.table.{ValueSet.{ValueSet}, TableRow.{T
 use Rattle.abstract_state.specs.{Components.{components, component_at, component_count, part_of, abstract_of, IsAllowed, IsComponent}, ValueOrder.{same_part, IsAscending}}
 use Rattle.abstract_state.specs.{Domains.{domain_of, domains, domains_of, HasMasks}, Tables.{Sets, Inductive, set_at, is_member, empty_set, AreAscending}}
 use Rattle.abstract_state.specs.Regular.{IsRegular}
-use Rattle.abstract_state.proofs.{OrderLaws.{part_itself, part_right, ascending_one}, AllowedLaws.{well_point, well_part}, ComponentLaws.{component_known}}
+use Rattle.abstract_state.proofs.{OrderLaws.{part_itself, part_right, ascending_one}, AllowedLaws.{well_point, well_part}}
 use Rattle.flow_model.specs.Effects.{AreIn}
 use Rattle.numbered_sets.specs.PlainTables.{row_at}
 use Rattle.flow_rules.specs.{Rows.{IsProperRow, IsRowIn}, Starts.{HasPart, single, entry_of, IsStartRow}}
@@ -55,6 +55,7 @@ module _ (app : App) (s : State) where
   part_there w (component.Task t) h = omega (arith, h, w.tasks_len)
   part_there w (component.Event t k) h = (omega (arith, h.0, w.tasks_len), h.1)
   part_there w (component.Alarm a) h = omega (arith, h, w.alarms_len)
+  part_there w (component.Source k) h = omega (arith, h, w.sources_len)
 
 -- the row of a well-formed and regular state is proper
 pub row_proper : (app : App) → HasMasks app → (s : State) → Well app s → IsRegular app s → IsProperRow app (row_at (point_of s) (entry_of app s))
@@ -96,9 +97,3 @@ module _ (app : App) (mode : ModeNo) (known : mode.0 < length app.modes) where
   pub start_row_same : (s : State) (r : Result TableRow Memory) → state ≡ s → IfOk r (λ row. row ≡ row_at (point_of s) (entry_of app s)) → IfOk r (λ row. row ≡ row_at (point_of state) (entry_of app state))
   start_row_same s (Ok row) is at = at ∙ ap (λ (x : State). row_at (point_of x) (entry_of app x)) (sym is)
   start_row_same s (Err e) is at = tt
-
--- a component of the list is the application's
-pub listed_component : (app : App) (items : List Component) (i : ℕ) (d : Component) → items ≡ components app → i < length items → IsComponent app (get_or items i d)
-listed_component app items i d is lt =
-    let known : i < component_count app = omega (arith, lt, ap length is) in
-    subst (IsComponent app) (get_or_default (components app) i (component.Alarm (alarm_no 0)) d known ∙ ap (λ (xs : List Component). get_or xs i d) (sym is)) (component_known app i known)

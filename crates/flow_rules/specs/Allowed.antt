@@ -6,8 +6,11 @@ use Rattle.osek_standard.specs.declared.{app.App.{App}, block.Kind.{Kind}}
 use Rattle.osek_standard.specs.declared.block.Kind.TheVariants as kind
 use Rattle.osek_standard.specs.declared.{call.{Call.TheVariants.{Mask}, MaskService.TheVariants.{WaitEvent}}, point.Point.{Point}}
 use Rattle.osek_standard.specs.declared.point.Point.TheVariants as point
-use Rattle.osek_standard.specs.{Apps.{the_task, the_block, is_extended}, Internal.{internal_of}}
-use Rattle.abstract_state.specs.declared.value.{Val.{Val, TheVariants.{Suspended, Live, Waiting}}, PartValue.{PartValue, TheVariants.{OfTask, OfEvent, OfAlarm}}}
+use Rattle.osek_standard.specs.{Apps.{the_task, the_block, is_extended, routine_start, routine_count}, Internal.{internal_of}}
+use Rattle.abstract_state.specs.declared.value.{Val.{Val, TheVariants.{Suspended, Live, Waiting}}, SourceVal.{SourceVal}, Component.{Component}, PartValue.{PartValue, TheVariants.{OfTask, OfSource}}}
+use Rattle.abstract_state.specs.declared.value.SourceVal.TheVariants as source_val
+use Rattle.abstract_state.specs.declared.value.Component.TheVariants as component
+use Rattle.abstract_state.specs.Components.{component_at}
 use Rattle.abstract_state.specs.{declared.table.{ValueSet.{ValueSet}, PlainEntry.{PlainEntry}}, ValueOrder.{IsAscending}, Tables.{set_at, is_member}}
 
 abbrev pub is_wait : Kind → Bool
@@ -24,6 +27,14 @@ abbrev pub stands_at : BlockNo → Bool → Val → Bool
 stands_at b named Suspended = false
 stands_at b named (Live x) = (x.block.0 == b.0) && beq x.inside named
 stands_at b named (Waiting c) = false
+
+abbrev pub is_out : SourceVal → Bool
+is_out source_val.Out = true
+is_out (source_val.In x) = false
+
+abbrev pub is_in_at : BlockNo → SourceVal → Bool
+is_in_at b source_val.Out = false
+is_in_at b (source_val.In x) = x.block.0 == b.0
 
 module _ (app : App) where
   -- a task waits at a WaitEvent block, and is extended
@@ -47,11 +58,26 @@ module _ (app : App) where
   fits (point.Routine b None) t v = true
   fits (point.Routine b (Some u)) t v = not (u.0 == t) || has_flag (names_internal t) v
 
-  -- Component c may have this value of its domain at the point.
+  -- the block is one of the source's routine
+  abbrev pub is_of_routine : ℕ → ℕ → Bool
+  is_of_routine k b = nat_le (routine_start app k).0 b && nat_lt b ((routine_start app k).0 + routine_count app k)
+
+  -- where no routine has the processor a source is out, and the one that has it is in at the point's block
+  abbrev pub source_fits : Point → ℕ → SourceVal → Bool
+  source_fits point.Halted k v = is_out v
+  source_fits point.Idle k v = is_out v
+  source_fits (point.Task b) k v = is_out v
+  source_fits (point.Routine b over) k v = not (is_of_routine k b.0) || is_in_at b v
+
+  -- a component may have this value of its domain at the point
+  abbrev pub may_be_by : Point → Component → PartValue → Bool
+  may_be_by p (component.Task t) (OfTask v) = may_wait t.0 v && fits p t.0 v
+  may_be_by p (component.Source k) (OfSource v) = source_fits p k.0 v
+  may_be_by p _ _ = true
+
+  -- Component c may.
   abbrev pub may_be : Point → ℕ → PartValue → Bool
-  may_be p c (OfTask v) = nat_lt c (length app.tasks) && (may_wait c v && fits p c v)
-  may_be p c (OfEvent b) = true
-  may_be p c (OfAlarm b) = true
+  may_be p c v = may_be_by p (component_at app c) v
 
 -- the values of a set that pass
 pub record IsPartOf (passes : PartValue → Bool) (set part : ValueSet) : Type 0 where

@@ -4,7 +4,7 @@ use Rattle.osek_standard.specs.declared.point.Point.TheVariants as point
 use Rattle.abstract_state.specs.{declared.{value.{Domain.{Domain}, PartValue.{PartValue}}, table.{ValueSet.{ValueSet}, PlainEntry.{PlainEntry}}}, Domains.{IsWithin}}
 use Rattle.abstract_state.specs.Tables.{set_at, is_member}
 use Rattle.flow_model.specs.{declared.{change.Change.{Change}, rule.Rule.{Rule}, test.Condition.{Condition}}, Tests.{PassesAt, value_after}}
-use Rattle.numbered_sets.specs.{Numbers.{Numbers, has_number}, Pools.{Values, values_at, IsLonger}, Views.{plain_set}}
+use Rattle.numbered_sets.specs.{Numbers.{Numbers, numbers, has_number, with_number}, Pools.{Values, values_at, domain_at, IsNumberOf, IsLonger}, Views.{plain_set}}
 use Rattle.flow_rules.specs.Passing.{ArePassed, AreTaken}
 
 -- These conditions and changes alone.
@@ -31,3 +31,9 @@ pub record IsPassedSet (rule : Rule) (before : List Values) (c : ℕ) (old : Num
   pub domain : new.domain ≡ old.domain
   pub known : (n : ℕ) → IsTrue (has_number new n) → n < length (values_at pool c)
   pub passed : ArePassed rule c old.domain (plain_set (values_at before c) old).members (plain_set (values_at pool c) new)
+
+-- the number of the value alone
+pub record IsAloneIn (pool : List Values) (c : ℕ) (v : PartValue) (set : Numbers) : Type 0 where
+  pub number : ℕ
+  pub is : IsNumberOf (values_at pool c) v number
+  pub only : set ≡ with_number (numbers (domain_at pool c) 0) number

@@ -9,7 +9,9 @@ use Rattle.flow_model.specs.declared.case.{Asked.{Asked}, Stay.{Stay}, Leaving.{
 use Rattle.flow_model.specs.declared.case.Asked.TheVariants as asked
 use Rattle.flow_model.specs.declared.case.Stay.TheVariants as stay
 use Rattle.flow_model.specs.declared.case.Decision.TheVariants as decision
-use Rattle.flow_model.specs.{Values.{is_live_value, block_of}, Effects.{AreIn, stay_point}, Scheduling.{Decides, end_point}}
+use Rattle.flow_model.specs.declared.runner.Runner.{Runner}
+use Rattle.flow_model.specs.declared.runner.Runner.TheVariants as runner
+use Rattle.flow_model.specs.{Values.{is_live_value, block_of_part}, Runners.{component_of, runner_point}, Effects.{AreIn, stay_point}, Scheduling.{Decides, end_point}}
 use Rattle.numbered_sets.specs.{declared.numbered_entry.NumberedEntry.{NumberedEntry}, Numbers.{has_number, kept_numbers}, NumberedEntries.{numbers_at, AreFilled}, Pools.{Values, values_at, IsNumberOf}}
 use Rattle.numbered_sets.specs.Views.{plain_entry, AreNumbersOf}
 use Rattle.flow_exits.specs.{declared.{exit.Exit.{Exit}, claim.Claim.{Claim}}, Exits.{IsFilled}, Claims.{limit_of, AreUnder}}
@@ -26,13 +28,14 @@ pub record IsWhole (app : App) (pool : List Values) (entry : NumberedEntry) : Ty
 
 -- ---- ends
 
--- the numbers of an end are of values of a domain, and there is one
-pub record HasNumbersOf (d : Domain) (x : NumberEnd) : Type 0 where
+-- the numbers of an end are of values of a component's domain, and there is one
+pub record HasNumbersOf (c : ℕ) (d : Domain) (x : NumberEnd) : Type 0 where
+  pub component : x.component ≡ c
   pub domain : x.numbers.domain ≡ d
   pub some : 0 < x.numbers.bits
 
-abbrev pub HaveNumbersOf : Domain → List NumberEnd → Type 0
-HaveNumbersOf d xs = (x : NumberEnd) → Contains xs x → HasNumbersOf d x
+abbrev pub HaveNumbersOf : ℕ → Domain → List NumberEnd → Type 0
+HaveNumbersOf c d xs = (x : NumberEnd) → Contains xs x → HasNumbersOf c d x
 
 -- the number is one of those at a point
 pub record IsNumberAt (xs : List NumberEnd) (p : Point) (n : ℕ) : Type 0 where
@@ -47,30 +50,30 @@ pub record IsNumberPut (p : Point) (n : ℕ) (before after : List NumberEnd) : T
   pub there : IsNumberAt after p n
   pub from : (q : Point) (m : ℕ) → IsNumberAt after q m → IsNumberAt before q m ⊎ ((q ≡ p) × (m ≡ n))
 
--- where the value of component c with a number stands
-abbrev pub block_with : List Values → ℕ → ℕ → PartValue → Point
-block_with pool c n d = point.Task (block_of (val_of (slice_index_or (values_at pool c) n d)))
+-- where the value of a runner's component with a number stands
+abbrev pub block_with : List Values → Runner → ℕ → PartValue → Point
+block_with pool r n d = runner_point r (block_of_part (slice_index_or (values_at pool (component_of r)) n d))
 
--- the numbers that the entry has of component c are at the blocks where their values stand
-pub record AreBlockEnds (pool : List Values) (entry : NumberedEntry) (c : ℕ) (xs : List NumberEnd) : Type 0 where
-  pub some : HaveNumbersOf (numbers_at entry c).domain xs
-  pub each : (p : Point) (n : ℕ) (d : PartValue) → IsNumberAt xs p n → IsTrue (has_number (numbers_at entry c) n) × (p ≡ block_with pool c n d)
-  pub whole : (n : ℕ) (d : PartValue) → IsTrue (has_number (numbers_at entry c) n) → IsNumberAt xs (block_with pool c n d) n
+-- the numbers that the entry has of a runner's component are at the blocks where their values stand
+pub record AreBlockEnds (pool : List Values) (entry : NumberedEntry) (r : Runner) (xs : List NumberEnd) : Type 0 where
+  pub some : HaveNumbersOf (component_of r) (numbers_at entry (component_of r)).domain xs
+  pub each : (p : Point) (n : ℕ) (d : PartValue) → IsNumberAt xs p n → IsTrue (has_number (numbers_at entry (component_of r)) n) × (p ≡ block_with pool r n d)
+  pub whole : (n : ℕ) (d : PartValue) → IsTrue (has_number (numbers_at entry (component_of r)) n) → IsNumberAt xs (block_with pool r n d) n
 
-abbrev pub AreBlocks : List Values → NumberedEntry → ℕ → Ends → Type 0
-AreBlocks pool entry c (ends.At points) = ⊥
-AreBlocks pool entry c (ends.With k xs) = (k ≡ c) × AreBlockEnds pool entry c xs
+abbrev pub AreBlocks : List Values → NumberedEntry → Runner → Ends → Type 0
+AreBlocks pool entry r (ends.At points) = ⊥
+AreBlocks pool entry r (ends.With xs) = AreBlockEnds pool entry r xs
 
 -- where the processor stands if it stays
 abbrev pub AreStayEnds : List Values → NumberedEntry → Stay → Ends → Type 0
 AreStayEnds pool entry (stay.At p) xs = xs ≡ ends.At (p ∷ [])
-AreStayEnds pool entry (stay.AtBlockOf t) xs = AreBlocks pool entry t.0 xs
+AreStayEnds pool entry (stay.AtBlockOf r) xs = AreBlocks pool entry r xs
 
 -- where it stands after this decision
 abbrev pub AreEndsBy : List Values → NumberedEntry → Stay → Decision → Ends → Type 0
 AreEndsBy pool entry where_to decision.Keep xs = AreStayEnds pool entry where_to xs
 AreEndsBy pool entry where_to (decision.To None) xs = xs ≡ ends.At (point.Idle ∷ [])
-AreEndsBy pool entry where_to (decision.To (Some w)) xs = AreBlocks pool entry w.0 xs
+AreEndsBy pool entry where_to (decision.To (Some w)) xs = AreBlocks pool entry (runner.Task w) xs
 
 -- One group comes last: that of the exits with these numbers by which this is decided.
 pub record AddsOne (pool : List Values) (leaving : Leaving) (d : Decision) (entry : NumberedEntry) (before now : List ExitGroup) : Type 0 where

@@ -11,13 +11,17 @@ use Rattle.flow_rules.specs.declared.group.Ends.TheVariants as ends
 abbrev pub holding : NumberedEntry → ℕ → Numbers → NumberedEntry
 holding entry c x = record { sets = slice_set entry.sets c x }
 
+-- the entry with the numbers of an end
+abbrev pub with_end : NumberedEntry → NumberEnd → NumberedEntry
+with_end entry x = holding entry x.component x.numbers
+
 -- an exit of the group, at a point, with these numbers
 abbrev pub exit_at : List Values → ExitGroup → NumberedEntry → Point → Exit
 exit_at pool g entry p = record { target = p; decision = g.decision; status = g.status; entry = plain_entry pool entry }
 
 abbrev pub exits_by : List Values → ExitGroup → Ends → List Exit
 exits_by pool g (ends.At points) = map (exit_at pool g g.entry) points
-exits_by pool g (ends.With c xs) = map (λ (x : NumberEnd). exit_at pool g (holding g.entry c x.numbers) x.target) xs
+exits_by pool g (ends.With xs) = map (λ (x : NumberEnd). exit_at pool g (with_end g.entry x) x.target) xs
 
 -- The exits of a group, and those of groups in a row.
 abbrev pub exits_of : List Values → ExitGroup → List Exit
@@ -31,10 +35,15 @@ pub record AreNumbersThere (pool : List Values) (entry : NumberedEntry) (c : ℕ
   pub domain : x.domain ≡ (numbers_at entry c).domain
   pub known : (n : ℕ) → IsTrue (has_number x n) → n < length (values_at pool c)
 
--- each end's numbers are those of values
+-- the numbers of an end are those of values
+pub record IsKnownEnd (pool : List Values) (entry : NumberedEntry) (x : NumberEnd) : Type 0 where
+  pub component : x.component < length entry.sets
+  pub numbers : AreNumbersThere pool entry x.component x.numbers
+
+-- so are those of each
 abbrev pub AreKnownEnds : List Values → NumberedEntry → Ends → Type 0
 AreKnownEnds pool entry (ends.At points) = ⊤
-AreKnownEnds pool entry (ends.With c xs) = (c < length entry.sets) × ((x : NumberEnd) → Contains xs x → AreNumbersThere pool entry c x.numbers)
+AreKnownEnds pool entry (ends.With xs) = (x : NumberEnd) → Contains xs x → IsKnownEnd pool entry x
 
 -- The numbers of a group are those of values of the pool.
 pub record IsKnownGroup (pool : List Values) (g : ExitGroup) : Type 0 where

@@ -1,13 +1,15 @@
 -- The exits of a point, one routine and one effect after another, in a pool that grows.
-use Rattle.std.specs.Prelude.{◌≡◌, ◌⊎◌, ℕ, Bool, true, ◌==◌, ◌&&◌, List, length, take, Contains}
+use Rattle.std.specs.Prelude.{◌≡◌, ◌⊎◌, ℕ, Bool, true, ◌==◌, ◌&&◌, List, [], ◌∷◌, ◌++◌, length, take, slice_index_or, Contains}
 use Rattle.osek_standard.specs.declared.{app.App.{App}, point.Point.{Point}}
-use Rattle.abstract_state.specs.declared.table.PlainEntry.{PlainEntry}
+use Rattle.abstract_state.specs.declared.{table.PlainEntry.{PlainEntry}, value.PartValue.{PartValue}}
+use Rattle.flow_model.specs.declared.change.Change.{Change}
+use Rattle.flow_model.specs.declared.change.Update.TheVariants as update
 use Rattle.flow_model.specs.{declared.{case.EffectCase.{EffectCase}, rule.Rule.{Rule}}, Effects.{AreAllAllowed, HaveKnownStays, CoverEffects, AreExactEffects}}
 use Rattle.flow_model.specs.Rules.{Applies}
 use Rattle.numbered_sets.specs.{declared.numbered_entry.NumberedEntry.{NumberedEntry}, Pools.{Values, IsLonger}, Views.{plain_entry}}
 use Rattle.flow_exits.specs.{Arrivals.{AreArrivals}, declared.exit.Exit.{Exit}, Leaving.{IsOfEffects, HasExitsFor, IsArrivalExit, HasArrivalsFor, effect_rule}}
-use Rattle.flow_rules.specs.declared.{group.ExitGroup.{ExitGroup}, levels.Levels.{Levels}}
-use Rattle.flow_rules.specs.{Groups.{all_exits, AreKnownGroups}, Levels.{AreAllLevels}, Deciding.{IsWhole}}
+use Rattle.flow_rules.specs.declared.{group.{NumberEnd.{NumberEnd}, ExitGroup.{ExitGroup}}, levels.Levels.{Levels}}
+use Rattle.flow_rules.specs.{Applying.{IsAloneIn}, Groups.{with_end, all_exits, IsKnownEnd, AreKnownGroups}, Levels.{AreAllLevels}, Deciding.{IsWhole}}
 
 -- exits by which routines begin come to others, those of the rules with a property among them
 pub record AddsRoutines (app : App) (p : Point) (entry : PlainEntry) (P : Rule → Type 0) (pool : List Values) (before : List ExitGroup) (after : List Values) (now : List ExitGroup) : Type 0 where
@@ -17,25 +19,52 @@ pub record AddsRoutines (app : App) (p : Point) (entry : PlainEntry) (P : Rule �
   pub each : (x : Exit) → Contains (all_exits after now) x → Contains (all_exits pool before) x ⊎ IsArrivalExit app p entry x
   pub some : (rule : Rule) → P rule → HasArrivalsFor app rule entry (all_exits after now)
 
--- a rule that takes all values and changes none
+-- a rule that takes all values, and changes one component
 abbrev pub is_bare : Rule → Bool
-is_bare rule = (length rule.conditions == 0) && (length rule.changes == 0)
+is_bare rule = (length rule.conditions == 0) && (length rule.changes == 1)
 
 -- one of the first rules, which is bare or isn't
 pub record IsAmongFirst (rules : List Rule) (i : ℕ) (bare : Bool) (rule : Rule) : Type 0 where
   pub listed : Contains (take i rules) rule
   pub is : is_bare rule ≡ bare
 
--- a point where a bare rule of these ends
-pub record IsBareTarget (rules : List Rule) (i : ℕ) (q : Point) : Type 0 where
+-- With the numbers of the end an entry is what the rule makes of its values, in a pool that grew, and the step ends where the rule's does.
+pub record IsEndOf (rule : Rule) (entry : NumberedEntry) (before pool : List Values) (x : NumberEnd) : Type 0 where
+  pub target : x.target ≡ rule.target
+  pub known : IsKnownEnd pool entry x
+  pub applies : Applies rule (plain_entry before entry) (plain_entry pool (with_end entry x))
+
+-- the end has the number alone of the value that the rule's first change sets
+pub record IsSetEnd (rule : Rule) (pool : List Values) (x : NumberEnd) : Type 0 where
+  pub change : Change
+  pub first : slice_index_or rule.changes 0 change ≡ change
+  pub value : PartValue
+  pub sets : change.update ≡ update.Set value
+  pub component : x.component ≡ change.component.0
+  pub target : x.target ≡ rule.target
+  pub alone : IsAloneIn pool x.component value x.numbers
+
+-- an end of the rule comes last
+pub record AddsEnd (rule : Rule) (entry : NumberedEntry) (pool : List Values) (before : List NumberEnd) (after : List Values) (now : List NumberEnd) : Type 0 where
+  pub end : NumberEnd
+  pub added : now ≡ before ++ end ∷ []
+  pub is : IsEndOf rule entry pool after end
+
+-- it is an end of a bare rule of these
+pub record IsSharedEnd (rules : List Rule) (i : ℕ) (entry : NumberedEntry) (before pool : List Values) (x : NumberEnd) : Type 0 where
   pub rule : Rule
   pub among : IsAmongFirst rules i true rule
-  pub is : q ≡ rule.target
+  pub is : IsEndOf rule entry before pool x
 
--- the points where the first rules end that are bare
-pub record AreBareTargets (rules : List Rule) (i : ℕ) (targets : List Point) : Type 0 where
-  pub each : (q : Point) → Contains targets q → IsBareTarget rules i q
-  pub some : (rule : Rule) → IsAmongFirst rules i true rule → Contains targets rule.target
+pub record HasSharedEnd (rule : Rule) (entry : NumberedEntry) (before pool : List Values) (ends : List NumberEnd) : Type 0 where
+  pub end : NumberEnd
+  pub listed : Contains ends end
+  pub is : IsEndOf rule entry before pool end
+
+-- the ends of the first rules that are bare
+pub record AreSharedEnds (rules : List Rule) (i : ℕ) (entry : NumberedEntry) (before pool : List Values) (ends : List NumberEnd) : Type 0 where
+  pub each : (x : NumberEnd) → Contains ends x → IsSharedEnd rules i entry before pool x
+  pub some : (rule : Rule) → IsAmongFirst rules i true rule → HasSharedEnd rule entry before pool ends
 
 -- the exits by which routines may begin at the point come to others
 pub record AddsArrivals (app : App) (p : Point) (entry : PlainEntry) (pool : List Values) (before : List ExitGroup) (after : List Values) (now : List ExitGroup) : Type 0 where

@@ -10,6 +10,7 @@ use Rattle.numbered_sets.specs.{declared.numbered_entry.NumberedEntry.{NumberedE
 use Rattle.numbered_sets.specs.Pools.{Values, values_at, domain_at, IsNumberOf}
 use Rattle.flow_exits.specs.Claims.{is_below}
 use Rattle.flow_rules.specs.declared.{insides.Insides.{Insides}, task_levels.{Level.{Level}, TaskLevels.{TaskLevels}}, levels.Levels.{Levels}}
+use Rattle.flow_rules.specs.Arrivals.{AreKnownArrivals}
 
 -- with this value task u is Live, at this current priority
 pub record IsLiveAt (app : App) (u p : ℕ) (v : PartValue) : Type 0 where
@@ -80,6 +81,7 @@ module _ (app : App) (pool : List Values) (levels : Levels) where
     pub size : length levels.tasks ≡ length app.tasks
     pub each : (u : ℕ) (d : TaskLevels) → u < length app.tasks → AreTaskLevels app u (values_at pool u) (slice_index_or levels.tasks u d)
     pub insides : AreInsides app pool levels.insides
+    pub arrivals : AreKnownArrivals app levels.arrivals.known
 
   -- All values of the pool are there.
   pub record AreAllLevels : Type 0 where

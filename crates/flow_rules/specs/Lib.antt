@@ -1,3 +1,4 @@
+pub mod Arrivals
 pub mod Levels
 pub mod Assembly
 pub mod Instructions

@@ -20,19 +20,20 @@ pub record IsSettledEntry (goes : ℕ → Bool) (pool : List Values) (entry afte
   pub each : (c : ℕ) → AreSettled (goes c) (values_at pool c) (numbers_at entry c) (numbers_at after c)
 
 -- and of the numbers of an end
-pub record IsSettledEnd (goes : Bool) (vs : List PartValue) (end after : NumberEnd) : Type 0 where
+pub record IsSettledEnd (goes : ℕ → Bool) (pool : List Values) (end after : NumberEnd) : Type 0 where
+  pub component : after.component ≡ end.component
   pub target : after.target ≡ end.target
-  pub numbers : AreSettled goes vs end.numbers after.numbers
+  pub numbers : AreSettled (goes end.component) (values_at pool end.component) end.numbers after.numbers
 
 -- of each end
-pub record AreSettledEach (goes : Bool) (vs : List PartValue) (before after : List NumberEnd) : Type 0 where
+pub record AreSettledEach (goes : ℕ → Bool) (pool : List Values) (before after : List NumberEnd) : Type 0 where
   pub size : length after ≡ length before
-  pub each : (i : ℕ) (d : NumberEnd) → i < length before → IsSettledEnd goes vs (slice_index_or before i d) (slice_index_or after i d)
+  pub each : (i : ℕ) (d : NumberEnd) → i < length before → IsSettledEnd goes pool (slice_index_or before i d) (slice_index_or after i d)
 
 abbrev pub AreSettledEnds : (ℕ → Bool) → List Values → Ends → Ends → Type 0
 AreSettledEnds goes pool (ends.At points) after = after ≡ ends.At points
-AreSettledEnds goes pool (ends.With c xs) (ends.At points) = ⊥
-AreSettledEnds goes pool (ends.With c xs) (ends.With k ys) = (k ≡ c) × AreSettledEach (goes c) (values_at pool c) xs ys
+AreSettledEnds goes pool (ends.With xs) (ends.At points) = ⊥
+AreSettledEnds goes pool (ends.With xs) (ends.With ys) = AreSettledEach goes pool xs ys
 
 pub record IsSettledBy (goes : ℕ → Bool) (pool : List Values) (group after : ExitGroup) : Type 0 where
   pub decision : after.decision ≡ group.decision

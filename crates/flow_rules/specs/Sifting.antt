@@ -1,7 +1,9 @@
 -- What conditions leave of numbered sets.
-use Rattle.std.specs.{Prelude.{◌≡◌, ℕ, ◌<◌, ◌&&◌, not, List, length, IsTrue}, List.{list_any}}
-use Rattle.abstract_state.specs.{declared.value.PartValue.{PartValue}, Tables.{is_member}}
-use Rattle.flow_model.specs.{declared.test.Condition.{Condition}, Tests.{is_failed}}
+use Rattle.std.specs.{Prelude.{◌≡◌, ℕ, ◌<◌, ◌&&◌, not, List, [], ◌∷◌, length, IsTrue}, List.{list_any}}
+use Rattle.abstract_state.specs.{declared.value.PartValue.{PartValue, TheVariants.{OfSource}}, Tables.{is_member}}
+use Rattle.abstract_state.specs.declared.value.SourceVal.TheVariants as source_val
+use Rattle.flow_model.specs.{declared.test.Condition.{Condition}, Tests.{is_failed}, Cases.{condition}}
+use Rattle.flow_model.specs.declared.test.Test.TheVariants as test
 use Rattle.numbered_sets.specs.{declared.numbered_entry.NumberedEntry.{NumberedEntry}, Numbers.{Numbers, has_number}, NumberedEntries.{numbers_at}, Pools.{Values, values_at}}
 use Rattle.numbered_sets.specs.Views.{plain_set}
 
@@ -20,3 +22,7 @@ pub record LeavesNone (pool : List Values) (xs : List Condition) (entry : Number
   pub component : ℕ
   pub known : component < length entry.sets
   pub none : (v : PartValue) → IsTrue (is_member (plain_set (values_at pool component) (numbers_at entry component)) v) → IsTrue (list_any (is_failed component v) xs)
+
+-- so does the one that wants a source in: component c has no other value than Out
+abbrev pub HasOutAlone : List Values → ℕ → NumberedEntry → Type 0
+HasOutAlone pool c entry = LeavesNone pool (condition c (test.IsNot (OfSource source_val.Out)) ∷ []) entry

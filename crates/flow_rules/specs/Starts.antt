@@ -14,6 +14,7 @@ abbrev pub HasPart : State → Component → Type 0
 HasPart s (component.Task t) = t.0 < length s.tasks
 HasPart s (component.Event t k) = (t.0 < length s.tasks) × (k.0 < 64)
 HasPart s (component.Alarm a) = a.0 < length s.alarms
+HasPart s (component.Source k) = k.0 < length s.sources
 
 abbrev pub single : Domain → PartValue → ValueSet
 single d v = record { domain = d; members = v ∷ [] }

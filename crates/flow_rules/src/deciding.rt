@@ -1,7 +1,6 @@
 //! What the scheduler decides with the values after an effect.
 ghost use Rattle.std.specs.Prelude.{◌≡◌, ◌<◌, ◌∷◌, [], length, slice_index_or, IfOk, OnOk, IfSome};
-ghost use Rattle.abstract_state.specs.Concrete.{val_of};
-ghost use Rattle.flow_model.specs.Values.{block_of as block_of_val};
+ghost use Rattle.flow_model.specs.{Runners.{component_of}, Values.{block_of_part}};
 ghost use Rattle.flow_model.specs.declared.case.Asked.TheVariants as asked;
 ghost use Rattle.osek_standard.specs.declared.point.Point.TheVariants as point;
 ghost use Rattle.numbered_sets.specs.Views.{AreNumbersOf};
@@ -12,9 +11,9 @@ ghost use Rattle.flow_rules.specs.{Deciding.{AreBlocks, HaveNumbersOf, IsNumberP
 
 use crate::after_effect::AfterEffect;
 use crate::group::{Ends, ExitGroup, NumberEnd};
-use abstract_state::{Domain, PartValue, Point, Val};
+use abstract_state::{Domain, PartValue, Point, SourceVal, Val};
 use flow_exits::Claim;
-use flow_model::{Asked, Decision, Stay};
+use flow_model::{Asked, Decision, Runner, Stay};
 use numbered_sets::{NumberedEntry, NumberedSet, Pool};
 use osek_values::{BlockNo, Memory, Seq, TaskNo};
 use std::alloc::Global;
@@ -167,7 +166,7 @@ impl<'a> AfterEffect<'a> {
         match decision {
             Decision::Keep => self.ends_of_stay(alloc, entry),
             Decision::To(None) => at(alloc, Point::Idle),
-            Decision::To(Some(task)) => at_blocks(alloc, self.pool, task, entry),
+            Decision::To(Some(task)) => at_blocks(alloc, self.pool, Runner::Task(task), entry),
         }
     }
 
@@ -178,7 +177,7 @@ impl<'a> AfterEffect<'a> {
     {
         match self.leaving.stay {
             Stay::At(point) => at(alloc, point),
-            Stay::AtBlockOf(task) => at_blocks(alloc, self.pool, task, entry),
+            Stay::AtBlockOf(runner) => at_blocks(alloc, self.pool, runner, entry),
         }
     }
 }
@@ -202,18 +201,18 @@ fn at(alloc: Global, point: Point) -> Result<Ends, Memory>
     Ok(Ends::At(points))
 }
 
-// the blocks of a task's values, each with those that stand there; `places` tells by a block's row where its end stands
+// the blocks of a runner's values, each with those that stand there; `places` tells by a block's row where its end stands
 fn at_blocks(
     alloc: Global,
     pool: &Pool,
-    task: TaskNo,
+    runner: Runner,
     entry: &NumberedEntry,
 ) -> Result<Ends, Memory>
-    requires known { task.0 < length entry.now.sets }
+    requires known { component_of runner < length entry.now.sets }
     requires numbers { AreNumbersOf pool.now entry.now }
-    ensures { IfOk result (AreBlocks pool.now entry.now task.0) }
+    ensures { IfOk result (AreBlocks pool.now entry.now runner) }
 {
-    let component = task.index();
+    let component = runner.component().index();
     let domain = entry.sets.domain(component);
     let count = pool.len(component);
     let mut places = Vec::from_elem(alloc, 0, block_count(domain))?;
@@ -221,40 +220,50 @@ fn at_blocks(
     let mut number = entry.next(component, 0, count);
     while number < count {
         let block = block_of(&pool.value(component, number));
-        put_number(
-            alloc,
+        let end = BlockEnd {
+            component,
             domain,
-            block,
-            number,
-            places.as_mut_slice(),
-            &mut ends,
-        )?;
+            target: runner.at(block),
+            row: row_of(domain, block),
+        };
+        put_number(alloc, end, number, places.as_mut_slice(), &mut ends)?;
         number = entry.next(component, number + 1, count);
     }
-    Ok(Ends::With { component, ends })
+    Ok(Ends::With(ends))
 }
 
-// puts a number to those with which a step ends at a block
+// an end at the point of a component's block, which stands in this row of its domain's blocks
+#[derive(Clone, Copy)]
+struct BlockEnd {
+    component: usize,
+    domain: Domain,
+    target: Point,
+    row: usize,
+}
+
+// puts a number to those with which a step ends at a point
 fn put_number(
     alloc: Global,
-    domain: Domain,
-    block: BlockNo,
+    end: BlockEnd,
     number: usize,
     places: &mut [usize],
     ends: &mut Seq<NumberEnd>,
 ) -> Result<(), Memory>
-    ensures some { OnOk result (HaveNumbersOf domain ends.old → HaveNumbersOf domain ends.new) }
-    ensures put { OnOk result (IsNumberPut (point.Task block) number ends.old ends.new) }
+    ensures some { OnOk result (HaveNumbersOf end.component end.domain ends.old → HaveNumbersOf end.component end.domain ends.new) }
+    ensures put { OnOk result (IsNumberPut end.target number ends.old ends.new) }
 {
-    let target = Point::Task(block);
-    let row = row_of(domain, block);
-    let Some(place) = end_at(places, row, ends, target) else {
-        if let Some(place) = places.get_mut(row) {
+    let target = end.target;
+    let Some(place) = end_at(places, end.row, ends, target) else {
+        if let Some(place) = places.get_mut(end.row) {
             *place = ends.len();
         }
-        let mut numbers = NumberedSet::new(alloc, domain);
+        let mut numbers = NumberedSet::new(alloc, end.domain);
         numbers.put(number)?;
-        return ends.push(NumberEnd { numbers, target });
+        return ends.push(NumberEnd {
+            component: end.component,
+            numbers,
+            target,
+        });
     };
     let end = ends.at_mut(place);
     end.numbers.put(number)?;
@@ -272,29 +281,33 @@ fn end_at(places: &[usize], row: usize, ends: &Seq<NumberEnd>, target: Point) ->
     None
 }
 
-// how many blocks a task has
+// how many blocks a task or a routine has
 fn block_count(domain: Domain) -> usize {
     match domain {
-        Domain::Task { count, .. } => usize::from(count),
+        Domain::Task { count, .. } | Domain::Source { count, .. } => usize::from(count),
         Domain::Event | Domain::Alarm => 0,
     }
 }
 
-// how many blocks of the task stand before a block
+// how many blocks of the task or the routine stand before a block
 fn row_of(domain: Domain, block: BlockNo) -> usize {
     match domain {
-        Domain::Task { first, .. } => block.index().saturating_sub(first.index()),
+        Domain::Task { first, .. } | Domain::Source { first, .. } => {
+            block.index().saturating_sub(first.index())
+        }
         Domain::Event | Domain::Alarm => 0,
     }
 }
 
 fn block_of(value: &PartValue) -> BlockNo
-    ensures { result ≡ block_of_val (val_of value.now) }
+    ensures { result ≡ block_of_part value.now }
 {
     match value {
         PartValue::OfTask(Val::Live(live)) => live.block,
         PartValue::OfTask(Val::Waiting(block)) => *block,
         PartValue::OfTask(Val::Suspended) => BlockNo(0),
         PartValue::OfEvent(_) | PartValue::OfAlarm(_) => BlockNo(0),
+        PartValue::OfSource(SourceVal::Out) => BlockNo(0),
+        PartValue::OfSource(SourceVal::In(routine)) => routine.block,
     }
 }

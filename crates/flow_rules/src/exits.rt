@@ -9,7 +9,7 @@ ghost use Rattle.flow_rules.specs.{Levels.{AreLevels}, Applying.{KeepsDomains}, 
 
 use crate::after_effect::AfterEffect;
 use crate::applying::applied;
-use crate::arriving::push_arrivals;
+use crate::arriving::NumberedPoint;
 use crate::before_effect::BeforeEffect;
 use crate::group::ExitGroup;
 use crate::levels::Levels;
@@ -44,7 +44,8 @@ pub fn exit_groups(
     ensures exits { IfOk result (λ groups. AreExits app.now point (plain_entry pool.old entry.now) (all_exits pool.new groups.items)) }
 {
     let mut groups = Vec::new(alloc);
-    push_arrivals(alloc, app, point, pool, entry, &mut groups)?;
+    let from = NumberedPoint { app, point, entry };
+    from.push_arrivals(alloc, pool, levels, &mut groups)?;
     match Runner::executing(app, point) {
         None => Ok(groups),
         Some(_) => {
@@ -75,7 +76,8 @@ impl<'a> BeforeEffect<'a> {
         ensures levels { OnOk result (AreLevels self.now.app.now pool.new levels.new) }
         ensures added { OnOk result (AddsInstructions self.now.app.now point (plain_entry pool.old self.now.before.now) pool.old groups.old.items pool.new groups.new.items) }
     {
-        let effects = effect_cases(alloc, self.app, point)?;
+        let outs = self.sources_out(alloc, point, pool)?;
+        let effects = effect_cases(alloc, self.app, point, outs.as_slice())?;
         for effect in effects.as_slice() {
             self.push_effect(alloc, effect, pool, levels, groups)?;
         }

@@ -1,4 +1,4 @@
-//! Exits that have all but the point, and the values of one component, in common.
+//! Exits that have all but the point, and for each the values of one component, in common.
 
 use abstract_state::Point;
 use flow_model::Decision;
@@ -8,6 +8,7 @@ use osek_values::{Seq, Status};
 /// The numbers of a component's values with which a step ends at a point.
 #[derive(Drop)]
 pub struct NumberEnd {
+    pub component: usize,
     pub numbers: NumberedSet,
     pub target: Point,
 }
@@ -17,11 +18,8 @@ pub struct NumberEnd {
 pub enum Ends {
     /// Each with all values.
     At(Seq<Point>),
-    /// Each with some values of a component.
-    With {
-        component: usize,
-        ends: Seq<NumberEnd>,
-    },
+    /// Each with some values of a component, and all of the others.
+    With(Seq<NumberEnd>),
 }
 
 /// Exits of a point with these numbers. The decision is none where a routine begins.

@@ -21,7 +21,7 @@ impl Insides {
     ghost use Rattle.flow_model.specs.Tests.{updated};
     ghost use Rattle.numbered_sets.specs.{NumberedEntries.{numbers_at}, Pools.{Values, seen_at, values_at, domain_at, IsNumberOf, IsLonger, AreValues}};
     ghost use Rattle.numbered_sets.specs.Made.{AreMade};
-    ghost use Rattle.flow_rules.specs.{Levels.{AreInside}, Settling.{AreSettledEach, AreSettledEnds, IsSettledBy}};
+    ghost use Rattle.flow_rules.specs.{Levels.{AreInside}, Settling.{IsSettledEnd, AreSettledEach, AreSettledEnds, IsSettledBy}};
 
     /// No value was seen yet.
     pub fn new(alloc: Global, task: TaskNo) -> Insides
@@ -112,31 +112,39 @@ impl Insides {
         Ok(())
     }
 
-    // the ends of other tasks' values stay as they are
+    // brings the task in with all numbers of its ends
     fn settle_ends(&self, alloc: Global, ends: &mut Ends) -> Result<(), Memory>
         ensures { OnOk result ((pool : List Values) → AreInside (values_at pool self.now.task.0) self.now → length (values_at pool self.now.task.0) ≡ length self.now.numbers →
             AreSettledEnds (λ c. c == self.now.task.0) pool ends.old ends.new) }
     {
         match ends {
             Ends::At(_) => Ok(()),
-            Ends::With { component, ends } => {
-                if *component == self.task.index() {
-                    return self.settle_each(alloc, ends);
-                }
-                Ok(())
-            }
+            Ends::With(ends) => self.settle_each(alloc, ends),
         }
     }
 
-    // brings the task in with all numbers of each end
+    // the ends of other components' values stay as they are
     fn settle_each(&self, alloc: Global, ends: &mut Seq<NumberEnd>) -> Result<(), Memory>
-        ensures { OnOk result ((vs : List PartValue) → AreInside vs self.now → length vs ≡ length self.now.numbers → AreSettledEach true vs ends.old ends.new) }
+        ensures { OnOk result ((pool : List Values) → AreInside (values_at pool self.now.task.0) self.now → length (values_at pool self.now.task.0) ≡ length self.now.numbers →
+            AreSettledEach (λ c. c == self.now.task.0) pool ends.old ends.new) }
     {
         for place in 0..ends.len() {
             let end = ends.at_mut(place);
-            let inside = self.of(alloc, &end.numbers)?;
-            end.numbers = inside;
+            self.settle_end(alloc, end)?;
         }
+        Ok(())
+    }
+
+    // brings the task in with all numbers of an end, if they are its
+    fn settle_end(&self, alloc: Global, end: &mut NumberEnd) -> Result<(), Memory>
+        ensures { OnOk result ((pool : List Values) → AreInside (values_at pool self.now.task.0) self.now → length (values_at pool self.now.task.0) ≡ length self.now.numbers →
+            IsSettledEnd (λ c. c == self.now.task.0) pool end.old end.new) }
+    {
+        if end.component != self.task.index() {
+            return Ok(());
+        }
+        let inside = self.of(alloc, &end.numbers)?;
+        end.numbers = inside;
         Ok(())
     }
 

@@ -1,7 +1,8 @@
-//! The values of all tasks by what the scheduler reads of them.
+//! The values of all tasks by what the scheduler reads of them, and the rules by which routines begin.
 ghost use Rattle.std.specs.Prelude.{◌≡◌, IfOk};
 ghost use Rattle.flow_rules.specs.Levels.{AreNoInsides};
 
+use crate::arrivals::Arrivals;
 use crate::insides::Insides;
 use crate::task_levels::TaskLevels;
 use numbered_sets::Pool;
@@ -10,11 +11,12 @@ use osek_values::{Memory, Seq, TaskNo};
 use std::alloc::Global;
 
 /// For each task the numbers of its values by what the scheduler reads of them, and for those that name an INTERNAL resource those
-/// of the same values inside.
+/// of the same values inside. Kept with these are the rules by which routines begin where none runs.
 #[derive(Drop)]
 pub struct Levels {
     pub tasks: Seq<TaskLevels>,
     pub insides: Seq<Insides>,
+    pub arrivals: Arrivals,
 }
 
 impl Levels {
@@ -22,7 +24,7 @@ impl Levels {
     ghost use Rattle.numbered_sets.specs.Pools.{IsLonger};
     ghost use Rattle.flow_rules.specs.{declared.task_levels.TaskLevels.{TaskLevels}, Levels.{HaveTaskDomains, AreAllInside, AreLevels, AreAllLevels}};
 
-    /// No value was judged yet.
+    /// No value was judged yet, and no rule is kept.
     pub fn new(alloc: Global, app: &App, pool: &Pool) -> Result<Levels, Memory>
         requires { length app.now.tasks ≤ length pool.now }
         ensures { IfOk result (AreLevels app.now pool.now) }
@@ -32,7 +34,12 @@ impl Levels {
             tasks.push(TaskLevels::new(alloc, pool.domain(task)))?;
         }
         let insides = no_insides(alloc, app)?;
-        Ok(Levels { tasks, insides })
+        let arrivals = Arrivals::new(alloc);
+        Ok(Levels {
+            tasks,
+            insides,
+            arrivals,
+        })
     }
 
     /// Judges the values that came in since the last time. Of a task that names an INTERNAL resource the same values inside

@@ -4,6 +4,7 @@
 mod after_effect;
 mod allowing;
 mod applying;
+mod arrivals;
 mod arriving;
 mod assembly;
 mod barring;
@@ -19,6 +20,7 @@ mod narrowing;
 mod ruling;
 mod settling;
 mod sifting;
+mod sources_out;
 mod starts;
 mod state_row;
 mod task_levels;

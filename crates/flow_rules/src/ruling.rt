@@ -71,7 +71,7 @@ fn add_instructions(
     let mut grown = pool.copy(alloc)?;
     let numbers = numbered(alloc, &mut grown, &from)?;
     let mut levels = Levels::new(alloc, app, &grown)?;
-    let effects = effect_cases(alloc, app, point)?;
+    let effects = effect_cases(alloc, app, point, &[])?;
     let ruled = Ruled {
         app,
         from: &from,
@@ -203,10 +203,10 @@ fn push_exits(
                 exits.push(exit_at(alloc, pool, group, &group.entry, *point)?)?;
             }
         }
-        Ends::With { component, ends } => {
+        Ends::With(ends) => {
             for end in ends.as_slice() {
                 let mut held = group.entry.copy(alloc)?;
-                held.sets.put(*component, &end.numbers)?;
+                held.sets.put(end.component, &end.numbers)?;
                 exits.push(exit_at(alloc, pool, group, &held, end.target)?)?;
             }
         }

@@ -5,7 +5,7 @@ ghost use Rattle.flow_model.specs.Scheduling.{goes_inside as goes_inside_of, has
 use crate::group::ExitGroup;
 use crate::levels::Levels;
 use abstract_state::{ComponentNo, Point};
-use flow_model::{Change, Decision, Stay, Update};
+use flow_model::{Change, Decision, Runner, Stay, Update};
 use numbered_sets::Pool;
 use osek_standard::App;
 use osek_values::{Memory, Seq, TaskNo};
@@ -21,7 +21,8 @@ fn has_it_after(app: &App, stay: Stay, decision: Decision, task: TaskNo) -> bool
         Decision::To(Some(winner)) => winner == task,
         Decision::Keep => match stay {
             Stay::At(point) => is_at_task(app, point, task),
-            Stay::AtBlockOf(owner) => owner == task,
+            Stay::AtBlockOf(Runner::Task(owner)) => owner == task,
+            Stay::AtBlockOf(Runner::Routine { .. }) => false,
         },
     }
 }

@@ -1,5 +1,6 @@
 //! What conditions leave of a numbered entry.
-ghost use Rattle.std.specs.{Prelude.{◌≡◌, ◌≤◌, [], ◌∷◌, length, IfOk, OnOk}, Bool.{OnTrue, OnFalse}};
+ghost use Rattle.std.specs.{Prelude.{◌≡◌, ◌<◌, ◌≤◌, [], ◌∷◌, length, IfOk, OnOk}, Bool.{OnTrue, OnFalse}};
+ghost use Rattle.flow_model.specs.declared.test.Condition.{Condition};
 ghost use Rattle.numbered_sets.specs.NumberedEntries.{number_domains, AreFilled, HasEmptySet};
 ghost use Rattle.flow_rules.specs.Sifting.{AreSifted, LeavesNone};
 
@@ -64,7 +65,7 @@ pub fn may_pass(conditions: &[Condition], pool: &Pool, entry: &NumberedEntry) ->
     true
 }
 
-// whether the value is there that a condition wants, if it wants one alone
+// whether the value is there that a condition wants, if it wants one alone, or another than one that it doesn't want
 fn has_wanted(condition: &Condition, pool: &Pool, entry: &NumberedEntry) -> bool
     requires { length entry.now.sets ≤ length pool.now }
     ensures { OnFalse result (LeavesNone pool.now (condition.now ∷ []) entry.now) }
@@ -75,6 +76,25 @@ fn has_wanted(condition: &Condition, pool: &Pool, entry: &NumberedEntry) -> bool
     }
     match &condition.test {
         Test::Is(value) => pool.has_value(component, value, entry),
+        Test::IsNot(_) => may_pass_alone(&condition.test, component, pool, entry),
         _ => true,
     }
+}
+
+/// Whether the value of a set that has one alone passes.
+pub fn may_pass_alone(test: &Test, component: usize, pool: &Pool, entry: &NumberedEntry) -> bool
+    requires set { component < length entry.now.sets }
+    requires values { component < length pool.now }
+    ensures { OnFalse result ((x : Condition) → x.component.0 ≡ component → x.test ≡ test.now → LeavesNone pool.now (x ∷ []) entry.now) }
+{
+    let count = pool.len(component);
+    let first = entry.next(component, 0, count);
+    if first >= count {
+        return false;
+    }
+    let second = entry.next(component, first + 1, count);
+    if second < count {
+        return true;
+    }
+    test.passes(&pool.value(component, first))
 }

@@ -1,16 +1,16 @@
 //! The row of one state.
 ghost use Rattle.std.specs.Prelude.{◌≡◌, ◌<◌, IfOk};
 ghost use Rattle.osek_standard.specs.{Points.{point_of as point_of_state}, Well.{Well}};
-ghost use Rattle.abstract_state.specs.{Components.{value_in as value_of_activity, is_armed as is_armed_state, part_of}, Regular.{IsRegular}};
+ghost use Rattle.abstract_state.specs.{Components.{value_in as value_of_activity, source_value as value_of_source, is_armed as is_armed_state, part_of}, Regular.{IsRegular}};
 ghost use Rattle.numbered_sets.specs.PlainTables.{row_at};
 ghost use Rattle.flow_rules.specs.{Rows.{IsProperRow}, Starts.{HasPart, single as single_set, entry_of as entry_of_state}};
 
 use abstract_state::{
-    Component, Domain, LiveVal, PartValue, PlainEntry, TableRow, Val, ValueSet, components,
-    domain_of, masks_are_few,
+    Component, Domain, LiveVal, PartValue, PlainEntry, RoutineVal, SourceVal, TableRow, Val,
+    ValueSet, components, domain_of, masks_are_few,
 };
 use generic_kernel::point_of;
-use osek_standard::{Activity, AlarmState, App, State};
+use osek_standard::{Activity, AlarmState, App, Source, State};
 use osek_values::{Memory, Seq};
 use std::alloc::Global;
 
@@ -62,6 +62,9 @@ fn part(state: &State, component: Component) -> PartValue
         Component::Task(task) => PartValue::OfTask(value_in(&state.task(task).activity)),
         Component::Event { task, bit } => { PartValue::OfEvent(state.task(task).events.has(bit.0)) }
         Component::Alarm(alarm) => PartValue::OfAlarm(is_armed(state.alarm(alarm))),
+        Component::Source(source) => PartValue::OfSource(source_value(
+            state.sources.at(source.index()),
+        )),
     }
 }
 
@@ -77,6 +80,18 @@ fn value_in(activity: &Activity) -> Val
             held: standing.held.copy(),
         }),
         Activity::Waiting(block) => Val::Waiting(*block),
+    }
+}
+
+fn source_value(source: &Source) -> SourceVal
+    ensures { result ≡ value_of_source source.now }
+{
+    match source {
+        Source::Out => SourceVal::Out,
+        Source::In(standing) => SourceVal::In(RoutineVal {
+            block: standing.at.block,
+            held: standing.held.copy(),
+        }),
     }
 }
 

@@ -4,6 +4,7 @@ use Rattle.std.specs.Prelude.{if◌then◌else◌, bit_and, bit_xor}
 use Rattle.std.proofs.lemmas.Bool.{cases_Bool}
 use Rattle.std.specs.declared.option.Option.{Option}
 use Rattle.osek_values.specs.{Numbers.{mask}, declared.numbers.{TaskNo.{TaskNo}, SourceNo.{SourceNo}}}
+use Rattle.abstract_state.specs.declared.value.ComponentNo.{ComponentNo}
 use Rattle.osek_values.specs.declared.notes.Value.TheVariants as value
 use Rattle.osek_values.specs.declared.status.Ask.TheVariants as ask
 use Rattle.osek_values.specs.declared.status.Status.TheVariants as status
@@ -45,9 +46,9 @@ module _ (app : App) (s m : State) where
       | inr basic ↦ (rw basic (always_served app s m (refused_case [] status.Access) (refused m status.Access) (passes_none app (abstract_of app s)) (keeps_serves app m _ _ _)))
     ]
 
-  pub routine_clearing_served : (k : SourceNo) (over : Option TaskNo) (e : ℕ) → IsServed app s m (event_clearings app (runner.Routine k over) e) (clear_event app m (Routine k) e)
+  pub routine_clearing_served : (k : SourceNo) (z : ComponentNo) (over : Option TaskNo) (e : ℕ) → IsServed app s m (event_clearings app (runner.Routine k z over) e) (clear_event app m (Routine k) e)
   unfolding clear_event
-  routine_clearing_served k over e = always_served app s m (refused_case [] status.CallLevel) (refused m status.CallLevel) (passes_none app (abstract_of app s)) (keeps_serves app m _ _ _)
+  routine_clearing_served k z over e = always_served app s m (refused_case [] status.CallLevel) (refused m status.CallLevel) (passes_none app (abstract_of app s)) (keeps_serves app m _ _ _)
 
   module _ (t : ℕ) (known : t < length app.tasks) (sees : Sees app s m) where
     abbrev off : ServiceCase

@@ -108,8 +108,8 @@ module _ (app : App) (s : State) (r : Runner) (b : BlockNo) (h : Stands app s r 
       let known = stands.runs.has.0 in
       let here : t.0 < length moved.tasks = let long = moved_well.well.tasks_len in omega (arith, long, known) in
       subst (λ (c : Caller). IsServed app s moved (event_clearings app (runner.Task t) e) (clear_event app moved c e)) (sym (task_calls app s t b stands)) (task_clearing_served app s moved t e known here)
-  clearing_served e (runner.Routine k over) stands =
-      subst (λ (c : Caller). IsServed app s moved (event_clearings app (runner.Routine k over) e) (clear_event app moved c e)) (sym (routine_calls app s k over b stands)) (routine_clearing_served app s moved k over e)
+  clearing_served e (runner.Routine k z over) stands =
+      subst (λ (c : Caller). IsServed app s moved (event_clearings app (runner.Routine k z over) e) (clear_event app moved c e)) (sym (routine_calls app s k z over b stands)) (routine_clearing_served app s moved k z over e)
 
   -- each call is served by its cases
   call_served : (c : Call) → is_service_call c ≡ true → HasOperands (tables app) c → IsServed app s moved (call_cases app r c) (row app moved (caller s.processor) c)

@@ -14,7 +14,7 @@ use Rattle.flow_services.proofs.{Calling.{calls_are_cases}, Expiring.{expiries_a
 -- what a block of the runner's names
 pub operands_of : (app : App) (r : Runner) (b : BlockNo) → OwnsBlock app r b → NamesEntries (tables app) (the_block app b.0).kind
 operands_of app (runner.Task t) b owns = (own_block app t.0 b.0 owns.0 owns.1).operands
-operands_of app (runner.Routine k over) b owns = (routine_block app k.0 b.0 owns.known owns.own).operands
+operands_of app (runner.Routine k z over) b owns = (routine_block app k.0 b.0 owns.known owns.own).operands
 
 module _ (app : App) (r : Runner) (b : BlockNo) (owns : OwnsBlock app r b) where
   module _ (service : IsTrue (is_service (the_block app b.0).kind)) (place : Block) (c : Call) (asked : Asked) (there : the_block app b.0 ≡ place) (is : place.kind ≡ kind.Call c) (asks : asked ≡ asked_after app r) where

@@ -119,7 +119,7 @@ module _ (app : App) where
   event_clearings (runner.Task t) m =
       if is_extended app t.0 then always (accepted_case [] (event_changes app t.0 (own_among t.0 m) false) queued.Nothing)
       else always (refused_case [] status.Access)
-  event_clearings (runner.Routine k over) m = always (refused_case [] status.CallLevel)
+  event_clearings (runner.Routine k z over) m = always (refused_case [] status.CallLevel)
 
   -- GetEvent: ACCESS of a basic task, STATE of a suspended one
   abbrev pub event_readings : ℕ → List ServiceCase

@@ -4,12 +4,12 @@ use Rattle.std.specs.{Prelude.{is_some, filter, if◌then◌else◌}, List.{list
 use Rattle.std.proofs.lemmas.{Bool.{or_from, or_left, or_right, lt-ltb, cases_eq}, List.{length-append, Folds.{list_any-append}}, Slice.Eq.{bytes_eq-Decides}}
 use Rattle.std.proofs.Math.ListN.{drop_of_length-le}
 use Rattle.osek_values.specs.{Lines.{IsIn}, declared.refusal.CodeRule.{CodeRule, TheVariants.{C1, C2, C3, C4, C6, C7, C8, C9, C10}}}
-use Rattle.oil_system.specs.declared.{objects.{Alarm.{Alarm}, Resource.{Resource}}, system.{TaskObject.{TaskObject}, EventObject.{EventObject}, System.{System}}}
+use Rattle.oil_system.specs.declared.{objects.{Alarm.{Alarm}, Resource.{Resource}}, system.{TaskObject.{TaskObject}, IsrObject.{IsrObject}, EventObject.{EventObject}, System.{System}}}
 use Rattle.oil_tree.specs.declared.tree.Object.{Object}
-use Rattle.oil_model.specs.{Objects.{name_of}, Rules.{repeated}, Systems.{modes, events, resources, names_of, task, alarm as alarm_of_object, system_of}}
+use Rattle.oil_model.specs.{Rules.{repeated}, Systems.{modes, events, resources, names_of, task, isr as isr_of_object, alarm as alarm_of_object, system_of}}
 use Rattle.task_code.specs.{declared.tree.{Body.{Body}, BodyKind.TheVariants.{Task, Isr}, Code.{Code}}, Statements.{Statements, closed, closing_line}}
 use Rattle.block_graph.specs.{Faults.{HasNoFault}, Locks.{walked, unpaired}, Names.{task_of, isr_of, alarm_of, resource_of, event_of}}
-use Rattle.block_graph.specs.Rules.{is_code_of, line_of_body, lacks_code, is_stray, has_same_owner, from_calls, undeclared, undeclared_in, internal_at, internal_in, isr_resources_by, statement_lines, block_lines, first_only, lines}
+use Rattle.block_graph.specs.Rules.{is_code_of, line_of_body, lacks_code, is_stray, has_same_owner, from_calls, undeclared, undeclared_in, internal_at, internal_in, unnamed_resources, isr_resources_by, statement_lines, block_lines, first_only, lines}
 use Rattle.generated_texts.proofs.{Rows.{AllFrom}, TaskNames.{task_name}, OilSentence.{tasks_from, oil_objects}}
 use Rattle.generated_texts.proofs.OilSentence as oil
 use Rattle.generated_texts.proofs.OilRules.{names_apart, tasks_only, alarm_only, isr_counted}
@@ -134,10 +134,14 @@ module _ (s : System) (n : ℕ) (knows : Knows s n) where
       rw (takable_steps steps.0 (line + 1 + 1) (loop_end line steps), takable_steps steps.1 (loop_end line steps + 1) (body_end line steps))
       (takable_bodies (i + 1) (body_end line steps + 1) bodies task)
 
--- the ISR takes no resource
-no_resources : (i line : ℕ) (bodies : List Steps) (task : ℕ) → flat_map (λ (body : Body). isr_resources_by body.kind body.statements) (bodies_from i line bodies task) ≡ []
-no_resources i line [] task = refl
-no_resources i line (steps ∷ bodies) task = no_resources (i + 1) (body_end line steps + 1) bodies task
+-- the ISR takes no resource, whatever it names
+takes_none : (s : System) (o : Option ℕ) (line task : ℕ) → unnamed_resources s o (isr_body line task).statements ++ [] ≡ []
+takes_none s None line task = refl
+takes_none s (Some number) line task = refl
+
+no_resources : (s : System) (i line : ℕ) (bodies : List Steps) (task : ℕ) → flat_map (λ (body : Body). isr_resources_by s body.kind body.owner.name body.statements) (bodies_from i line bodies task) ≡ []
+no_resources s i line [] task = takes_none s (isr_of s (codes "I")) line task
+no_resources s i line (steps ∷ bodies) task = no_resources s (i + 1) (body_end line steps + 1) bodies task
 
 -- no statement locks anything
 unlocked_step : (step : Step) (line : ℕ) (next : Statements) → walked (step_then line step next) [] ≡ walked next []
@@ -194,14 +198,14 @@ module _ (nons : List Bool) (bodies : List Steps) (task_named : ℕ) (few : leng
   tasks_are : s.tasks ≡ map object_of (tasks_from 0 6 nons)
   tasks_are = ap (map object_of) (tasks_only nons few some)
 
-  pub isrs_are : s.isrs ≡ codes "I" ∷ []
-  isrs_are = ap (map name_of) (isr_counted nons few some)
+  pub isrs_are : s.isrs ≡ isr_of_object (oil.isr_object (oil.line_behind 6 nons + 1)) ∷ []
+  isrs_are = ap (map isr_of_object) (isr_counted nons few some)
 
   knows : Knows s (length nons)
   knows = record {
     tasks = λ k h. found (λ (x : TaskObject). bytes_eq (task_name k) x.name) s.tasks
         (ap (list_any (λ (x : TaskObject). bytes_eq (task_name k) x.name)) tasks_are ∙ any_task object_of (λ o. refl) k 0 6 nons (omega arith) (omega (arith, h)));
-    isr = found (bytes_eq (codes "I")) s.isrs (ap (list_any (bytes_eq (codes "I"))) isrs_are);
+    isr = found (λ (x : IsrObject). bytes_eq (codes "I") x.name) s.isrs (ap (list_any (λ (x : IsrObject). bytes_eq (codes "I") x.name)) isrs_are);
     alarm = found (λ (x : Alarm). bytes_eq (codes "A") x.name) s.alarms
         (ap (λ (os : List Object). list_any (λ (x : Alarm). bytes_eq (codes "A") x.name) (map (alarm_of_object (names_of (codes "COUNTER") (oil_objects nons)) (names_of (codes "TASK") (oil_objects nons)) (modes (oil_objects nons)) (events (oil_objects nons))) os)) (alarm_only nons few some));
     resource = found (λ (x : Resource). bytes_eq (codes "R") x.name) s.resources refl;
@@ -209,19 +213,19 @@ module _ (nons : List Bool) (bodies : List Steps) (task_named : ℕ) (few : leng
     takable = λ line. ap (λ (o : Option ℕ). internal_at s o line) (at_first (λ (x : Resource). bytes_eq (codes "R") x.name) s.resources refl refl);
   }
 
-  all_coded : (list_any (λ (x : TaskObject). lacks_code Task code.bodies x.name) s.tasks || list_any (lacks_code Isr code.bodies) s.isrs) ≡ false
+  all_coded : (list_any (λ (x : TaskObject). lacks_code Task code.bodies x.name) s.tasks || list_any (λ (x : IsrObject). lacks_code Isr code.bodies x.name) s.isrs) ≡ false
   all_coded =
       or_from (list_any (λ (x : TaskObject). lacks_code Task code.bodies x.name) s.tasks) _
       (ap (list_any (λ (x : TaskObject). lacks_code Task code.bodies x.name)) tasks_are
       ∙ none_lacks object_of (λ o. refl) code.bodies 0 6 nons (λ k low high. has_task_code k 0 1 bodies task_named low (omega (arith, high, same))))
-      (ap (list_any (lacks_code Isr code.bodies)) isrs_are ∙ or_from (lacks_code Isr code.bodies (codes "I")) false (ap not (has_isr_code 0 1 bodies task_named)) refl)
+      (ap (list_any (λ (x : IsrObject). lacks_code Isr code.bodies x.name)) isrs_are ∙ or_from (lacks_code Isr code.bodies (codes "I")) false (ap not (has_isr_code 0 1 bodies task_named)) refl)
 
   no_lines : (rule : CodeRule) → lines rule s code ≡ []
   no_lines C1 = ap (λ (b : Bool). if b then 0 ∷ [] else []) all_coded
   no_lines C2 = ap (map line_of_body) (no_strays s 0 1 bodies task_named (λ k h. knows.tasks k (omega (arith, h, same))) knows.isr)
   no_lines C3 = ap (map line_of_body) (one_owner 0 1 bodies task_named [] (omega (arith, few, same)) (λ _ _ _ _ _. refl) (λ _. refl))
   no_lines C4 = named_bodies s (length nons) knows 0 1 bodies task_named are among
-  no_lines C6 = no_resources 0 1 bodies task_named
+  no_lines C6 = no_resources s 0 1 bodies task_named
   no_lines C7 = unlocked_bodies 0 1 bodies task_named
   no_lines C8 = ap first_only (drop_of_length-le (block_lines code.bodies) {i = 1024} (omega (arith, blocks_count (length nons) 0 1 bodies task_named are, few, same)))
   no_lines C9 = refl

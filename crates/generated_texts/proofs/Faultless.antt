@@ -1,13 +1,13 @@
 -- The texts of a seed and a number of tasks have no fault.
-use Rattle.std.proofs.Common.{◌≡◌, ℕ, ◌<◌, ◌≤◌, Bool, List, [], ◌∷◌, length, map, get_or, codes, true, None, Ok, Err, refl, sym, ap, subst, ◌∙◌, arith}
+use Rattle.std.proofs.Common.{◌≡◌, ℕ, ◌+◌, ◌<◌, ◌≤◌, Bool, List, [], ◌∷◌, length, map, get_or, true, None, Ok, Err, refl, sym, ap, subst, ◌∙◌, arith}
 use Rattle.std.specs.Prelude.{Result}
 use Rattle.osek_values.specs.declared.{refused.LineFault.{LineFault}, refusal.CodeRule.{CodeRule}}
 use Rattle.osek_standard.specs.{declared.{app.App.{App}, objects.{Counter.{Counter}, Isr.{Isr}}}, Apps.{no_isr, no_counter}}
 use Rattle.osek_vectors.specs.{declared.generated.Generated.{Generated}, CodeTexts.{code_text}, Draws.{first_state}, EventLines.{event_text}, GeneratedTexts.{generated_texts}}
 use Rattle.osek_vectors.specs.OilTexts.{oil_text}
 use Rattle.oil_lexer.specs.Text.{AreTokens}
-use Rattle.oil_system.specs.declared.system.{CounterObject.{CounterObject}, System.{System}}
-use Rattle.oil_model.specs.Systems.{counter, system_of}
+use Rattle.oil_system.specs.declared.system.{CounterObject.{CounterObject}, IsrObject.{IsrObject}, System.{System}}
+use Rattle.oil_model.specs.Systems.{counter, isr, system_of}
 use Rattle.task_code.specs.declared.tree.Code.{Code}
 use Rattle.task_code.proofs.Depths.{has_fit}
 use Rattle.block_graph.specs.{Answers.{IsAnswer}, Apps.{isr_with, extent, counters_from, HasApp}, Blocks.{source_size}}
@@ -18,7 +18,7 @@ use Rattle.trace_text.specs.EventText.{read_text}
 use Rattle.front_end.proofs.SomeAnswer.{declared_is_linkable}
 use Rattle.generated_texts.specs.Faultless.{TextsHaveNoFault}
 use Rattle.generated_texts.proofs.{Rows.{AllFrom}, Lexemes.{Lexeme, spelled, tokens_from, are_right, parted}, OilDrawn.{IsOilText, oil_is}}
-use Rattle.generated_texts.proofs.{OilLexemes.{oil_lexemes, oil_right, oil_size}, OilSentence.{counter_object, oil_objects, oil_tree, oil_has_tree}}
+use Rattle.generated_texts.proofs.{OilLexemes.{oil_lexemes, oil_right, oil_size}, OilSentence.{line_behind, counter_object, isr_object, oil_objects, oil_tree, oil_has_tree}}
 use Rattle.generated_texts.proofs.{OilRules.{counter_only, oil_has_no_fault}, CodeDrawn.{IsCodeText, code_is}, CodeLexemes.{Steps, AreSteps, code_lexemes, code_right, code_size}}
 use Rattle.generated_texts.proofs.{CodeSentence.{the_code, code_has_tree}, CodeRules.{code_has_no_fault, isrs_are}, EventDrawn.{events_have_no_fault}, EventTexts.{HasSources}}
 
@@ -65,8 +65,8 @@ module _ (nons : List Bool) (few : length nons ≤ 16) (some : 0 < length nons) 
 
     sources : (app : App) → HasApp s code app → HasSources app
     sources app has =
-        let isrs : app.isrs ≡ map (λ (name : List ℕ). isr_with name (extent body_kind.Isr name code.bodies 0)) (codes "I" ∷ []) =
-        has.isrs ∙ ap (map (λ (name : List ℕ). isr_with name (extent body_kind.Isr name code.bodies 0))) (isrs_are nons bodies task few some same are among) in
+        let isrs : app.isrs ≡ map (λ (x : IsrObject). isr_with x (extent body_kind.Isr x.name code.bodies 0)) (isr (isr_object (line_behind 6 nons + 1)) ∷ []) =
+        has.isrs ∙ ap (map (λ (x : IsrObject). isr_with x (extent body_kind.Isr x.name code.bodies 0))) (isrs_are nons bodies task few some same are among) in
         let counters : app.counters ≡ counters_from s (counter counter_object ∷ []) 0 (source_size code.bodies) =
         has.counters ∙ ap (λ (cs : List CounterObject). counters_from s cs 0 (source_size code.bodies)) counters_are in
         record {

@@ -3,12 +3,12 @@ use Rattle.std.proofs.Common.{◌≡◌, ℕ, ◌+◌, ◌<◌, ◌≤◌, ◌^�
 use Rattle.std.specs.{Prelude.{◌&&◌, not, nat_le, find, filter}, List.{list_any, flat_map, AllByRecursion}, Str.{bytes_eq}}
 use Rattle.std.proofs.lemmas.{Bool.{and_from, or_from, or_left, le-leb, false_from_ne_true}, Fmt.{decimal_digit}, List.Folds.{list_any-append}, Option.{slice_get_past}}
 use Rattle.std.proofs.lemmas.Slice.Eq.{bytes_eq-Decides}
-use Rattle.osek_values.specs.{Lines.{IsIn}, declared.refusal.OilRule.{OilRule, TheVariants.{O1, O2, O3, O4, O5, O6, O7, O9, O10, O11, O12, O13, O14, O15, O16, O17}}}
+use Rattle.osek_values.specs.{Lines.{IsIn}, declared.refusal.OilRule.{OilRule, TheVariants.{O1, O2, O3, O4, O5, O6, O7, O9, O10, O11, O12, O13, O14, O15, O16, O17, O18}}}
 use Rattle.oil_lexer.specs.Numbers.{value_of}
 use Rattle.oil_tree.specs.{declared.tree.{Attr.{Attr}, Object.{Object}}, AttrLists.{attr_list}}
 use Rattle.oil_model.specs.{declared.objects.Category.TheVariants.{Two}, Faults.{HasNoFault}, Lists.{found_of}, LookUp.{is_named, word_of, word_at, attr_line}}
 use Rattle.oil_model.specs.Objects.{is_kind, objects_of, is_called, declares, line_at, object_line, has_scheduler, is_other_mode, is_ordinary, is_isr, is_internal, explicit_bits, free_from}
-use Rattle.oil_model.specs.Rules.{repeated, is_unknown, has_same_name, kinds, repeated_names, all_repeated_names, os_lines, missing_in, doubles_in, wrong_in, dangling_in, is_wrongly_activated, is_linked, is_callback, empty_masks_from, found_line, first_beyond, beyond_limits, is_reversed, late_times_of, is_other_category, takes_resource, second_internals_of, is_internal_scheduler, lines}
+use Rattle.oil_model.specs.Rules.{repeated, is_unknown, has_same_name, kinds, repeated_names, all_repeated_names, os_lines, missing_in, doubles_in, wrong_in, dangling_in, is_wrongly_activated, is_linked, is_callback, empty_masks_from, found_line, first_beyond, beyond_limits, is_reversed, late_times_of, is_other_category, second_internals_of, is_internal_scheduler, barred_resources_of, lines}
 use Rattle.generated_texts.proofs.TaskNames.{task_name, task_name_injective, decimal_value}
 use Rattle.generated_texts.proofs.OilSentence.{task_with, task_object, tasks_from, line_behind, bare_object, counter_object, alarm_object, isr_object, foot_objects, oil_objects, oil_tree}
 
@@ -190,9 +190,10 @@ module _ (nons : List Bool) (few : length nons ≤ 16) (some : 0 < length nons) 
   no_lines O12 = ap (λ (es : List Object). empty_masks_from (explicit_bits 0 es) es) event_only ∙ masks_right
   no_lines O13 = within
   no_lines O14 = λ i. map (line_at (codes "MINCYCLE")) (filter is_reversed (counter_only i)) ++ flat_map (late_times_of objects) (alarm_only i)
-  no_lines O15 = λ i. map (line_at (codes "CATEGORY")) (filter is_other_category (isr_only i)) ++ map (line_at (codes "RESOURCE")) (filter takes_resource (isr_only i))
+  no_lines O15 = ap (λ (os : List Object). map (line_at (codes "CATEGORY")) (filter is_other_category os)) isr_only
   no_lines O16 = ap (λ (os : List Object). flat_map (second_internals_of objects) os) tasks_only ∙ none_of_tasks 0 6 nons
   no_lines O17 = ap (λ (os : List Object). map (line_at (codes "RESOURCEPROPERTY")) (filter is_internal_scheduler os)) resource_only
+  no_lines O18 = ap (flat_map (barred_resources_of (has_scheduler objects) objects)) isr_counted
 
   pub oil_has_no_fault : HasNoFault (oil_tree nons)
   oil_has_no_fault rule line violated = subst (IsIn line) (no_lines rule) violated

@@ -9,7 +9,7 @@ use Rattle.flow_exits.specs.declared.exit.Exit.{Exit}
 use Rattle.numbered_sets.specs.Pools.{Values}
 use Rattle.flow_rules.specs.declared.group.{NumberEnd.{NumberEnd}, ExitGroup.{ExitGroup}}
 use Rattle.flow_rules.specs.declared.group.Ends.TheVariants as ends
-use Rattle.flow_rules.specs.Groups.{holding, exit_at, exits_by, exits_of, all_exits}
+use Rattle.flow_rules.specs.Groups.{with_end, exit_at, exits_by, exits_of, all_exits}
 use Rattle.global_cfg.specs.{PointOrder.{AreInOrder, HasNumber, IsPut}, Targets.{leads, end_target, IsEndOf, AreAllPut, AreEndsPut, IsTargetAfter, ArePutAfter}}
 
 -- none is to be put in, or those that are have their numbers there
@@ -133,8 +133,8 @@ module _ (p : Point) where
       record { listed = subst (Contains points) (sym x.2) (among_contained points x.0 x.1); on = h.on }))
       put)
 
-  pub put_with_numbers : (pool : List Values) (g : ExitGroup) (c : ℕ) (xs : List NumberEnd) (a b : List Point) → ArePutAfter p g.decision (map end_target xs) a b → AreEndsPut p (exits_by pool g (ends.With c xs)) a b
-  put_with_numbers pool g c xs a b put = ends_by_targets (λ (x : NumberEnd). exit_at pool g (holding g.entry c x.numbers) x.target) end_target g.decision (λ x. refl) (λ x. refl) xs a b put
+  pub put_with_numbers : (pool : List Values) (g : ExitGroup) (xs : List NumberEnd) (a b : List Point) → ArePutAfter p g.decision (map end_target xs) a b → AreEndsPut p (exits_by pool g (ends.With xs)) a b
+  put_with_numbers pool g xs a b put = ends_by_targets (λ (x : NumberEnd). exit_at pool g (with_end g.entry x) x.target) end_target g.decision (λ x. refl) (λ x. refl) xs a b put
 
 -- one end more, and one group more, in a loop over their list
 pub more_ends : (items : List NumberEnd) (i : ℕ) (x : NumberEnd) → i < length items → x ≡ get_or items i x → map end_target (take i items) ++ end_target x ∷ [] ≡ map end_target (take (i + 1) items)

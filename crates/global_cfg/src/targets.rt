@@ -55,7 +55,7 @@ fn put_group(points: &mut Vec<Point>, group: &ExitGroup, from: Point) -> Result<
             put_points(points, targets.as_slice(), group.decision, from)?;
             Ok(())
         }
-        Ends::With { ends, .. } => {
+        Ends::With(ends) => {
             put_ends(points, ends.as_slice(), group.decision, from)?;
             Ok(())
         }

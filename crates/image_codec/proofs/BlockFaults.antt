@@ -143,18 +143,18 @@ module _ (t : Tables) (blocks b : ℕ) (v : Version) where
   way_same k m e = sym (way_blank m) ∙ ap (way_fields t blocks b) e ∙ way_blank k
 
   kind_found : (bytes rest : List ℕ) (test : Bool) (k : Kind) (o : Option Kind) → Found test k o
-      → CoversAt (λ (m : Kind). m ≡ k) (or_later (rule_of false test (is_allowed t b k)) bytes None) rest (judged_at t b bytes rest o)
+      → CoversAt (λ (m : Kind). m ≡ k) (or_later (rule_of false test (is_allowed t b v k)) bytes None) rest (judged_at t b v bytes rest o)
   kind_found bytes rest true k o e =
-      subst (λ (z : Option Kind). CoversAt (λ (m : Kind). m ≡ k) (or_later (rule_of false true (is_allowed t b k)) bytes None) rest (judged_at t b bytes rest z)) (sym e)
-      (kept_cross bytes rest k (is_allowed t b k))
-  kind_found bytes rest false k o e = ap (judged_at t b bytes rest) e
+      subst (λ (z : Option Kind). CoversAt (λ (m : Kind). m ≡ k) (or_later (rule_of false true (is_allowed t b v k)) bytes None) rest (judged_at t b v bytes rest z)) (sym e)
+      (kept_cross bytes rest k (is_allowed t b v k))
+  kind_found bytes rest false k o e = ap (judged_at t b v bytes rest) e
 
-  kind_covers : (bytes : List ℕ) → Covers (λ (k : Kind). k ≡ kind_of_number (slice_index bytes 0)) (kind_field t blocks b ∷ []) bytes (kind_at t b bytes)
+  kind_covers : (bytes : List ℕ) → Covers (λ (k : Kind). k ≡ kind_of_number (slice_index bytes 0)) (kind_field t blocks b v ∷ []) bytes (kind_at t b v bytes)
   unfolding kind_at
   kind_covers [] = refl
   kind_covers (n ∷ rest) =
       let k = kind_of_number n in
-      subst (λ (short : Bool). CoversAt (λ (m : Kind). m ≡ k) (or_later (rule_of short (below 26 n) (is_allowed t b k)) (n ∷ rest) None) rest (judged_at t b (n ∷ rest) rest (slice_get blank_kinds n))) (sym (long n rest))
+      subst (λ (short : Bool). CoversAt (λ (m : Kind). m ≡ k) (or_later (rule_of short (below 26 n) (is_allowed t b v k)) (n ∷ rest) None) rest (judged_at t b v (n ∷ rest) rest (slice_get blank_kinds n))) (sym (long n rest))
       (kind_found (n ∷ rest) rest (nat_lt n 26) k (slice_get blank_kinds n) (found_in blank_kinds kind.Loop n))
 
   -- a kind made of one number
@@ -292,8 +292,8 @@ module _ (t : Tables) (blocks b : ℕ) (v : Version) where
   unfolding block_at
   block_covers bytes =
       let k = kind_of_number (slice_index bytes 0) in
-      covers_then (λ (m : Kind). m ≡ k) Any (kind_field t blocks b ∷ []) (field w8 (below 2) any ∷ field w32 any any ∷ fields_of k) bytes (kind_at t b bytes) with_flag (kind_covers bytes)
-      (λ m is. let rest = behind (kind_field t blocks b ∷ []) bytes in
+      covers_then (λ (m : Kind). m ≡ k) Any (kind_field t blocks b v ∷ []) (field w8 (below 2) any ∷ field w32 any any ∷ fields_of k) bytes (kind_at t b v bytes) with_flag (kind_covers bytes)
+      (λ m is. let rest = behind (kind_field t blocks b v ∷ []) bytes in
       subst (λ (z : Kind). Covers Any (field w8 (below 2) any ∷ field w32 any any ∷ fields_of z) rest (with_flag m rest)) is (fields_rest m rest))
 
 -- ---- all blocks

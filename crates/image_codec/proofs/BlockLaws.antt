@@ -239,7 +239,7 @@ blank_other k e = refl
 module _ (t : Tables) (blocks b : ℕ) (v : Version) where
   -- a block is good beside the tables
   pub record GoodBlock (y : Entry) : Type 0 where
-    pub blank : GoodBlank t b (blank_of y.0.kind)
+    pub blank : GoodBlank t b v (blank_of y.0.kind)
     pub line : y.0.line < 2 ^ 32
     pub filled : GoodFilled t b (blank_of y.0.kind) (unwayed y.0.kind)
     pub leads : LeadsWell t blocks b y.0.kind y.0.next.0
@@ -249,7 +249,7 @@ module _ (t : Tables) (blocks b : ℕ) (v : Version) where
   unfolding block_at
   block_law =
       said (block_at t blocks b v) _ _ (block_bytes v) GoodBlock
-      (and_then (kind_at t b) (λ k. one (kind_number k)) (GoodBlank t b) (λ (y : Entry). blank_of y.0.kind) _ _ _ (kind_law t b) (λ blank blank_good.
+      (and_then (kind_at t b v) (λ k. one (kind_number k)) (GoodBlank t b v) (λ (y : Entry). blank_of y.0.kind) _ _ _ (kind_law t b v) (λ blank blank_good.
       and_then flag_at (λ f. one (flag_number f)) _ (λ (y : Entry). y.0.locked) _ _ _ flag_law (λ locked _.
       and_then (number_at w32) four (λ n. n < 2 ^ 32) (λ (y : Entry). y.0.line) _ _ _ (number_law w32 (2 ^ 32) wide32) (λ line _.
       and_then (operands_at t b blank) operand_bytes (GoodFilled t b blank) (λ (y : Entry). unwayed y.0.kind) _ _ _ (operands_law t b blank) (λ filled filled_good.

@@ -2,15 +2,16 @@
 use Rattle.std.proofs.Common.{◌≡◌, ℕ, zero, suc, ◌+◌, ◌-◌, ◌<◌, ◌≤◌, Bool, true, false, ◌&&◌, eqb, leb, ltb, List, [], ◌∷◌, length, get_or, Option, None, refl, sym, ap, subst, ◌∙◌}
 use Rattle.std.proofs.Common.{arith}
 use Rattle.std.proofs.lemmas.{Bool.{and_parts, and_from, eqb-true, eq-eqb, leb-true, ltb-true}, List.Sums.{AllPass-from_list_all}}
-use Rattle.std.specs.{Prelude.{slice_index_or}, List.{list_all, list_any}}
+use Rattle.std.specs.{Prelude.{slice_index_or, not}, List.{list_all, list_any}}
 use Rattle.osek_standard.specs.declared.{objects.{Task.{Task}, Isr.{Isr}, Counter.{Counter}}, block.{Block.{Block}, Kind.{Kind}}}
 use Rattle.osek_standard.specs.Validity.{no_block, IsAmong, is_within, owners, is_own_next, task_may, isr_may, due_of, tick_may, NamesEntries, IsOtherWay, IsOwner, IsTaskCode}
-use Rattle.osek_standard.specs.Validity.{IsIsrCode, IsTickCode}
+use Rattle.osek_standard.specs.{Validity.{IsIsrCode, IsTickCode}, Versions.{is_for_resource, TakesNone}}
 use Rattle.osek_standard.specs.declared.block.Kind.TheVariants as kind
-use Rattle.image_model.specs.declared.site.Site.{Site}
+use Rattle.image_model.specs.declared.{site.Site.{Site}, image.Version.{Version}}
+use Rattle.image_model.specs.declared.image.Version.TheVariants as version
 use Rattle.image_model.specs.CallNames as call
 use Rattle.image_codec.specs.declared.parts.{Tables.{Tables}, Parts.{Parts}}
-use Rattle.image_codec.specs.BlockReading.{tick_order, where_has, task_range, isr_range, counter_range, tasks_allow, isrs_allow, counter_allows, counters_allow, is_owned}
+use Rattle.image_codec.specs.BlockReading.{tick_order, where_has, task_range, isr_range, counter_range, isr_may_in, tasks_allow, isrs_allow, counter_allows, counters_allow, is_owned}
 use Rattle.image_codec.specs.BlockReading.{is_due_in, is_due}
 use Rattle.image_codec.proofs.{KindLaws.{GoodOperands}, BlockLaws.{unwayed, blank_of, GoodWay, LeadsWell, GoodBlock}, WholeTables.{tables_of_parts}}
 use Rattle.image_codec.proofs.Places.{numbered_at, within_among, where_among}
@@ -26,8 +27,21 @@ task_may_blank last (kind.Choice o) = refl
 task_may_blank last k = refl
 
 pub isr_may_blank : (last : Bool) (k : Kind) → isr_may last (blank_of k) ≡ isr_may last k
-isr_may_blank last (kind.Call (call.Resource k r)) = refl
+isr_may_blank last (kind.Choice o) = refl
 isr_may_blank last k = refl
+
+pub for_resource_blank : (k : Kind) → is_for_resource (blank_of k) ≡ is_for_resource k
+for_resource_blank (kind.Call (call.Resource k r)) = refl
+for_resource_blank k = refl
+
+-- what stands in an ISR's code, and in version 1 takes no resource
+in_isr_code : (v : Version) (last : Bool) (k : Kind) → isr_may_in v last k ≡ true → isr_may last k ≡ true
+in_isr_code version.One last k e = (and_parts (not (is_for_resource k)) (isr_may last k) e).1
+in_isr_code version.Two last k e = e
+
+takes_none : (v : Version) (last : Bool) (k : Kind) → v ≡ version.One → isr_may_in v last k ≡ true → not (is_for_resource k) ≡ true
+takes_none version.One last k one e = (and_parts (not (is_for_resource k)) (isr_may last k) e).0
+takes_none version.Two last k one e = absurd cc
 
 pub tick_order_blank : (n place : ℕ) (k : Kind) → tick_order n place (blank_of k) ≡ tick_order n place k
 tick_order_blank n place (kind.Choice o) = refl
@@ -116,14 +130,14 @@ module _ (p : Parts) (same : length p.blocks ≡ length p.sites)
   abbrev the_fact : (b : ℕ) → b < length blocks → GoodBlock t (length blocks) b p.version (get_or blocks b no_block, get_or p.sites b None)
   the_fact b lt = fact b no_block None lt
 
-  allowed_parts : (b : ℕ) → b < length blocks → (is_owned t b ≡ true) × (tasks_allow t b (blank_of (kind_of b)) ≡ true) × (isrs_allow t b (blank_of (kind_of b)) ≡ true) × (counters_allow t b (blank_of (kind_of b)) ≡ true)
+  allowed_parts : (b : ℕ) → b < length blocks → (is_owned t b ≡ true) × (tasks_allow t b (blank_of (kind_of b)) ≡ true) × (isrs_allow t b p.version (blank_of (kind_of b)) ≡ true) × (counters_allow t b (blank_of (kind_of b)) ≡ true)
   allowed_parts b lt =
       let all = (the_fact b lt).blank.allowed in
       let k = blank_of (kind_of b) in
-      let p = and_parts ((is_owned t b && tasks_allow t b k) && isrs_allow t b k) (counters_allow t b k) all in
-      let q = and_parts (is_owned t b && tasks_allow t b k) (isrs_allow t b k) p.0 in
+      let m = and_parts ((is_owned t b && tasks_allow t b k) && isrs_allow t b p.version k) (counters_allow t b k) all in
+      let q = and_parts (is_owned t b && tasks_allow t b k) (isrs_allow t b p.version k) m.0 in
       let r = and_parts (is_owned t b) (tasks_allow t b k) q.0 in
-      (r.0, r.1, q.1, p.1)
+      (r.0, r.1, q.1, m.1)
 
   pub block_owned : (b : ℕ) → b < length blocks → list_any (is_within b) (owners t.tasks t.isrs t.counters) ≡ true
   block_owned b lt = (allowed_parts b lt).0
@@ -195,14 +209,23 @@ module _ (p : Parts) (same : length p.blocks ≡ length p.sites)
     pub isr_owner : 0 < y.count → y.first.0 + y.count ≤ length blocks → IsOwner (tables_of_parts p) y.first.0 y.count
     isr_owner some inside = owner_is y.first.0 y.count some inside (isr_ways inside)
 
+    -- what its blocks may be, in the version
+    isr_allows : y.first.0 + y.count ≤ length blocks → (b : ℕ) → IsAmong b y.first.0 y.count → isr_may_in p.version (eqb (b + 1) (y.first.0 + y.count)) (blank_of (kind_of b)) ≡ true
+    isr_allows inside b a =
+        let below : b < length blocks = omega (arith, a.1, inside) in
+        where_among b y.first.0 y.count (isr_may_in p.version (eqb (b + 1) (y.first.0 + y.count)) (blank_of (kind_of b)))
+        (AllPass-from_list_all (λ (z : Isr). where_has b (isr_range z) (isr_may_in p.version (eqb (b + 1) (z.first.0 + z.count)) (blank_of (kind_of b)))) t.isrs (allowed_parts b below).2 k d lt) a
+
     pub isr_code : y.first.0 + y.count ≤ length blocks → IsIsrCode (tables_of_parts p) y.first.0 y.count
     isr_code inside = record {
       each = λ b a.
-          let below : b < length blocks = omega (arith, a.1, inside) in
-          let allow = (allowed_parts b below).2 in
-          let here = where_among b y.first.0 y.count (isr_may (eqb (b + 1) (y.first.0 + y.count)) (blank_of (kind_of b))) (AllPass-from_list_all (λ (z : Isr). where_has b (isr_range z) (isr_may (eqb (b + 1) (z.first.0 + z.count)) (blank_of (kind_of b)))) t.isrs allow k d lt) a in
-          sym (isr_may_blank (eqb (b + 1) (y.first.0 + y.count)) (kind_of b)) ∙ here;
+          let last = eqb (b + 1) (y.first.0 + y.count) in
+          sym (isr_may_blank last (kind_of b)) ∙ in_isr_code p.version last (blank_of (kind_of b)) (isr_allows inside b a);
     }
+
+    pub isr_takes_none : p.version ≡ version.One → y.first.0 + y.count ≤ length blocks → TakesNone (tables_of_parts p) y.first.0 y.count
+    isr_takes_none one inside b a =
+        ap not (sym (for_resource_blank (kind_of b))) ∙ takes_none p.version (eqb (b + 1) (y.first.0 + y.count)) (blank_of (kind_of b)) one (isr_allows inside b a)
 
   -- ---- counters
 

@@ -1,12 +1,13 @@
 -- The blocks of a valid application pass the tests of reading.
 use Rattle.std.proofs.Common.{◌≡◌, ℕ, suc, ◌+◌, ◌-◌, ◌^◌, ◌<◌, ◌≤◌, Bool, true, false, not, ◌&&◌, eqb, leb, ltb, List, [], ◌∷◌, length, get_or, Option, Some, None, refl, sym, ap, subst, ◌∙◌, arith, inl, inr}
-use Rattle.std.specs.{Prelude.{slice_index_or, slice_get, IsTrue, ⊤}, List.{list_any}}
+use Rattle.std.specs.{Prelude.{slice_index_or, slice_get, All, IsTrue, ⊤}, List.{list_any}}
 use Rattle.std.proofs.lemmas.{Bool.{and_parts, and_from, or_cases, eqb-true, eq-eqb, ne_eqb, le-leb, ltb-true, lt-ltb, not-true, cases_lt}, List.{get_or_past}}
 use Rattle.std.proofs.lemmas.List.Sums.{list_all-from_AllPass}
 use Rattle.osek_standard.specs.declared.{app.App.{App}, objects.{Task.{Task}, Isr.{Isr}, Counter.{Counter}}, block.{Block.{Block}, Kind.{Kind}}}
 use Rattle.osek_standard.specs.declared.block.Kind.TheVariants as kind
 use Rattle.image_model.specs.CallNames as call
-use Rattle.osek_standard.specs.Validity.{no_block, no_counter, no_task, no_isr, IsAmong, is_within, is_own_next, due_of, tick_may, NamesEntries, IsOtherWay, IsBlock, IsOwner, IsTickCode, IsValid}
+use Rattle.osek_standard.specs.Validity.{no_block, no_counter, no_task, no_isr, IsAmong, is_within, is_own_next, due_of, isr_may, tick_may, NamesEntries, IsOtherWay, IsBlock, IsOwner, IsTickCode, IsValid}
+use Rattle.osek_standard.specs.Versions.{is_for_resource, TakesNone}
 use Rattle.image_model.specs.declared.site.{Form.{Form}, Known.{Known}, Site.{Site}}
 use Rattle.image_model.specs.declared.site.Form.TheVariants as form
 use Rattle.image_model.specs.declared.site.Known.TheVariants as known
@@ -16,11 +17,11 @@ use Rattle.image_model.specs.Versions.{IsUnknown, SaysNothing, FitsAlone}
 use Rattle.image_codec.specs.declared.parts.{Tables.{Tables}, Parts.{Parts}}
 use Rattle.image_model.specs.Sites.{IsForm}
 use Rattle.image_codec.specs.{Spelling.{kind_number, form_number}, Fits.{FitsKind}}
-use Rattle.image_codec.specs.BlockReading.{blank_kinds, tick_order, where_has, task_range, isr_range, counter_range, tasks_allow, isrs_allow, counter_allows, counters_allow, is_owned, is_allowed, is_due_in, is_due, form_of}
+use Rattle.image_codec.specs.BlockReading.{blank_kinds, tick_order, where_has, task_range, isr_range, counter_range, isr_may_in, tasks_allow, isrs_allow, counter_allows, counters_allow, is_owned, is_allowed, is_due_in, is_due, form_of}
 use Rattle.image_codec.proofs.KindLaws.{other_of, GoodOperands, GoodNo, GoodBlank, GoodFilled}
 use Rattle.image_codec.proofs.{BlockLaws.{unwayed, blank_of, listed_blank, number_unwayed, number_blank, GoodWay, LeadsWell}, SiteLaws.{GoodKnown, GoodSite}}
 use Rattle.image_codec.proofs.{OwnerTests.{any_of_owners}, WholeTables.{tables_of_parts}, Places.{all_numbered, among_within, within_among, among_where}}
-use Rattle.image_codec.proofs.BlocksOfGood.{same_within, task_may_blank, isr_may_blank, tick_order_blank, is_end, tick_place}
+use Rattle.image_codec.proofs.BlocksOfGood.{same_within, task_may_blank, isr_may_blank, for_resource_blank, tick_order_blank, is_end, tick_place}
 
 -- ---- forms
 
@@ -165,6 +166,11 @@ ways_follow due place b (kind.Expire a) n may follows = follows refl
 ways_follow due place b kind.IsrEnd n may follows = tt
 ways_follow due place b k n may follows = absurd cc
 
+-- a kind that stands in an ISR's code stands there in version 2, and in version 1 where it takes no resource
+isr_may_from : (v : Version) (last : Bool) (k : Kind) → (v ≡ version.One → not (is_for_resource k) ≡ true) → isr_may last k ≡ true → isr_may_in v last (blank_of k) ≡ true
+isr_may_from version.One last k none may = and_from (not (is_for_resource (blank_of k))) (isr_may last (blank_of k)) (ap not (for_resource_blank k) ∙ none refl) (isr_may_blank last k ∙ may)
+isr_may_from version.Two last k none may = isr_may_blank last k ∙ may
+
 -- an entry that passes
 found_at : {X : Type 0} (p : X → Bool) (xs : List X) → list_any p xs ≡ true → (k : ℕ) × (k < length xs) × ((d : X) → p (get_or xs k d) ≡ true)
 found_at p [] e = absurd cc
@@ -226,10 +232,10 @@ module _ (p : Parts) (v : IsValid (tables_of_parts p)) where
         let x = get_or t.tasks k d in
         among_where b x.first.0 x.count _ (λ a. task_may_blank (eqb (b + 1) (x.first.0 + x.count)) (kind_of b) ∙ (v.task_code k d below).each b a))
 
-    by_isrs : isrs_allow t b (blank_of (kind_of b)) ≡ true
-    by_isrs = list_all-from_AllPass _ t.isrs (λ k d below.
+    by_isrs : (p.version ≡ version.One → All (λ (x : Isr). TakesNone (tables_of_parts p) x.first.0 x.count) t.isrs) → isrs_allow t b p.version (blank_of (kind_of b)) ≡ true
+    by_isrs none = list_all-from_AllPass _ t.isrs (λ k d below.
         let x = get_or t.isrs k d in
-        among_where b x.first.0 x.count _ (λ a. isr_may_blank (eqb (b + 1) (x.first.0 + x.count)) (kind_of b) ∙ (v.isr_code k d below).each b a))
+        among_where b x.first.0 x.count _ (λ a. isr_may_from p.version (eqb (b + 1) (x.first.0 + x.count)) (kind_of b) (λ one. none one k d below b a) ((v.isr_code k d below).each b a)))
 
     module _ (c : ℕ) (d : Counter) (below : c < length t.counters) where
       abbrev z : Counter
@@ -253,15 +259,16 @@ module _ (p : Parts) (v : IsValid (tables_of_parts p)) where
           let place = tick_place (length due) (b - z.first.0) (kind_of b) (order a) e in
           ticks.next b a (omega (arith, a.0, place, ticks.size)))
 
-    allowed : is_allowed t b (blank_of (kind_of b)) ≡ true
-    allowed =
+    allowed : (p.version ≡ version.One → All (λ (x : Isr). TakesNone (tables_of_parts p) x.first.0 x.count) t.isrs) → is_allowed t b p.version (blank_of (kind_of b)) ≡ true
+    allowed none =
         let k = blank_of (kind_of b) in
         let counters : counters_allow t b k ≡ true = all_numbered (counter_allows t b k) t.counters by_counter in
-        and_from ((is_owned t b && tasks_allow t b k) && isrs_allow t b k) (counters_allow t b k)
-        (and_from (is_owned t b && tasks_allow t b k) (isrs_allow t b k) (and_from (is_owned t b) (tasks_allow t b k) (v.owned b lt) by_tasks) by_isrs) counters
+        and_from ((is_owned t b && tasks_allow t b k) && isrs_allow t b p.version k) (counters_allow t b k)
+        (and_from (is_owned t b && tasks_allow t b k) (isrs_allow t b p.version k) (and_from (is_owned t b) (tasks_allow t b k) (v.owned b lt) by_tasks) (by_isrs none)) counters
 
-    pub good_blank : GoodBlank t b (blank_of (kind_of b))
-    good_blank = record { blank = blank_again (kind_of b); allowed = allowed }
+    -- in version 1 no ISR takes a resource
+    pub good_blank : (p.version ≡ version.One → All (λ (x : Isr). TakesNone (tables_of_parts p) x.first.0 x.count) t.isrs) → GoodBlank t b p.version (blank_of (kind_of b))
+    good_blank none = record { blank = blank_again (kind_of b); allowed = allowed none }
 
     pub good_filled : FitsKind (kind_of b) → GoodFilled t b (blank_of (kind_of b)) (unwayed (kind_of b))
     good_filled fits = record {

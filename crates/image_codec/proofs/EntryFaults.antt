@@ -8,14 +8,14 @@ use Rattle.osek_standard.specs.{declared.objects.{Task.{Task}, Isr.{Isr}, Counte
 use Rattle.image_model.specs.declared.image.Version.{Version}
 use Rattle.image_model.specs.declared.image.Version.TheVariants as version
 use Rattle.image_codec.specs.{declared.{fault.ImageRule.TheVariants.{I3, I5}, parts.{Header.{Header}, Range.{Range}}}, Laws.{HeaderFaults, EntryFaults}}
-use Rattle.image_codec.specs.Reading.{Read, ◌>>=◌, further_byte_at, unused_byte_at, unused_16_at, name_at, number_at, tested_byte_at, tested_at, byte_below_at, modes_at, range_at}
+use Rattle.image_codec.specs.Reading.{Read, ◌>>=◌, further_byte_at, further_16_at, name_at, number_at, tested_byte_at, tested_at, byte_below_at, modes_at, range_at}
 use Rattle.image_codec.specs.TableReading.{version_at, header_at, is_priority, is_activation, is_internal_number, property_at, schedule_of, schedule_at, task_at, isr_at, counter_at, is_action_mask, action_of, action_at, is_start_time}
-use Rattle.image_codec.specs.TableReading.{is_start_cycle, alarm_at, resource_at, task_with, isr_with, resource_with}
-use Rattle.image_codec.specs.FieldTable.{fault_of, Field, field, any, some, below, at_most, first_broken, behind, magic_field, further_field, unused_field, name_field}
+use Rattle.image_codec.specs.TableReading.{is_start_cycle, alarm_at, resource_at, task_with, is_isr_priority, isr_with, is_interrupt_ceiling, resource_with}
+use Rattle.image_codec.specs.FieldTable.{fault_of, Field, field, any, some, below, at_most, first_broken, behind, magic_field, further_field, name_field}
 use Rattle.image_codec.specs.FieldTable.{header_fields, range_fields, modes_field, priority_field, activation_field, internal_field, property_field, task_start, task_fields, isr_head, isr_fields, counter_fields, action_fields, start_fields}
 use Rattle.image_codec.specs.FieldTable.{alarm_fields, resource_fields}
 use Rattle.image_codec.proofs.FieldFaults.{Covers, Any, Numbered, covers_then, covers_made, number_covers, tested_covers, cross_covers, byte_covers, magic_covers}
-use Rattle.image_codec.proofs.FieldFaults.{further_byte_covers, property_covers, unused_byte_covers, unused_16_covers, name_covers, range_covers, fault_covered}
+use Rattle.image_codec.proofs.FieldFaults.{further_byte_covers, further_16_covers, property_covers, name_covers, range_covers, fault_covered}
 
 -- what is read follows the fields, and the value is so
 record Follows {A : Type 0} (P : A → Type 0) (fs : List Field) (bytes : List ℕ) (read : Read A) : Type 0 where
@@ -60,20 +60,13 @@ a_further_byte v value test bytes = record { covers = further_byte_covers v valu
 a_property : (v : Version) (tasks : List Task) (r : ℕ) (bytes : List ℕ) → Follows Any (further_field v (property_field tasks r)) bytes (property_at v tasks r bytes)
 a_property v tasks r bytes = record { covers = property_covers v tasks r bytes }
 
-an_unused_byte : (v : Version) (value : ℕ) (bytes : List ℕ) → Follows Any (further_field v (unused_field w8 value)) bytes (unused_byte_at v value bytes)
-an_unused_byte v value bytes = record { covers = unused_byte_covers v value bytes }
-
-an_unused_16 : (v : Version) (value : ℕ) (bytes : List ℕ) → Follows Any (further_field v (unused_field w16 value)) bytes (unused_16_at v value bytes)
-an_unused_16 v value bytes = record { covers = unused_16_covers v value bytes }
+a_further_16 : (v : Version) (value : ℕ) (test : ℕ → Bool) (bytes : List ℕ) → Follows Any (further_field v (field w16 test any)) bytes (further_16_at v value test bytes)
+a_further_16 v value test bytes = record { covers = further_16_covers v value test bytes }
 
 -- fields, and what follows them
 rest_of : {A B : Type 0} {fs gs : List Field} {bytes : List ℕ} {r : Read A} (k : A × List ℕ → Read B) → Follows Any fs bytes r
     → ((a : A) → Follows Any gs (behind fs bytes) (k (a, behind fs bytes))) → Follows Any (fs ++ gs) bytes (r >>= k)
 rest_of {fs = fs} {gs = gs} {bytes = bytes} {r = r} k first second = record { covers = covers_then Any Any fs gs bytes r (λ a rest. k (a, rest)) first.covers (λ a _. (second a).covers) }
-
--- the value is what was made before
-done_by : {A B : Type 0} {fs : List Field} {bytes : List ℕ} {r : Read A} (b : B) → Follows Any fs bytes r → Follows Any fs bytes (r >>= λ x. Ok (b, x.1))
-done_by b h = made (λ _. b) h
 
 covered : {A : Type 0} {fs : List Field} {bytes : List ℕ} {r : Read A} → Follows Any fs bytes r → fault_of r ≡ first_broken fs bytes
 covered {fs = fs} {bytes = bytes} {r = r} h = fault_covered Any (first_broken fs bytes) (behind fs bytes) r h.covers
@@ -143,7 +136,7 @@ unfolding isr_at
 isr_covers n tasks earlier bytes =
     next _ (a_name (map (λ (x : Isr). x.name) earlier) bytes) (λ name _.
     rest_of _ (a_code n.blocks (owners tasks earlier []) (behind (isr_head earlier) bytes)) (λ code.
-    done_by (isr_with name code) (an_unused_byte n.version 0 _)))
+    made (isr_with name code) (a_further_byte n.version 0 is_isr_priority _)))
 
 -- ---- counters
 
@@ -245,7 +238,7 @@ resource_covers v tasks earlier bytes =
     next _ (a_name (map (λ (x : Resource). x.name) earlier) bytes) (λ name _.
     next _ (a_tested w32 (at_most greatest_ceiling) _) (λ ceiling _.
     rest_of _ (a_property v tasks (length earlier) _) (λ internal.
-    done_by (resource_with name ceiling internal) (an_unused_16 v 0 _))))
+    made (resource_with name ceiling internal) (a_further_16 v 0 is_interrupt_ceiling _))))
 
 pub entry_faults : EntryFaults
 entry_faults = record {

@@ -8,8 +8,8 @@ use Rattle.image_codec.specs.{declared.{fault.{ImageRule.{ImageRule, TheVariants
 use Rattle.image_model.specs.declared.image.Version.{Version}
 use Rattle.image_model.specs.declared.image.Version.TheVariants as version
 use Rattle.image_codec.specs.TableReading.{version_of, version_at, is_property, property_at}
-use Rattle.image_codec.specs.Reading.{Read, ◌>>=◌, fault_at, kept, found_at, further_byte_at, unused_byte_at, unused_16_at, text_at, name_at, byte_at, byte_below_at, flag_at, number_at, tested_byte_at, tested_at, count_at, range_at}
-use Rattle.image_codec.specs.FieldTable.{fault_of, Field, field, any, some, below, at_most, none_of, broken_at, or_later, first_broken, behind, front, magic_field, further_field, unused_field, property_field, is_name_len, name_broken, name_field, first_field, count_field, range_fields, or_else}
+use Rattle.image_codec.specs.Reading.{Read, ◌>>=◌, fault_at, kept, found_at, further_byte_at, further_16_at, text_at, name_at, byte_at, byte_below_at, flag_at, number_at, tested_byte_at, tested_at, count_at, range_at}
+use Rattle.image_codec.specs.FieldTable.{fault_of, Field, field, any, some, below, at_most, none_of, broken_at, or_later, first_broken, behind, front, magic_field, further_field, property_field, is_name_len, name_broken, name_field, first_field, count_field, range_fields, or_else}
 
 -- reading gives this fault, or a value that is so, and leaves the rest
 abbrev pub CoversAt : {A : Type 0} → (A → Type 0) → Option Fault → List ℕ → Read A → Type 0
@@ -192,6 +192,11 @@ unfolding further_byte_at
 further_byte_covers version.One value test bytes = (value, refl, tt)
 further_byte_covers version.Two value test bytes = covers_any (Numbered w8 bytes) (field w8 test any ∷ []) bytes _ (byte_covers test bytes)
 
+pub further_16_covers : (v : Version) (value : ℕ) (test : ℕ → Bool) (bytes : List ℕ) → Covers Any (further_field v (field w16 test any)) bytes (further_16_at v value test bytes)
+unfolding further_16_at
+further_16_covers version.One value test bytes = (value, refl, tt)
+further_16_covers version.Two value test bytes = covers_any (Numbered w16 bytes) (field w16 test any ∷ []) bytes _ (tested_covers w16 bytes test)
+
 -- what is made of a number is tested as the number is
 module _ {B : Type 0} (make : ℕ → B) (test : B → Bool) (bytes : List ℕ) where
   kept_by : (n : ℕ) (rest : List ℕ) (passes : Bool) → kept passes I5 bytes (make n, rest) ≡ (kept passes I5 bytes (n, rest) >>= λ x. Ok (make x.0, x.1))
@@ -212,16 +217,6 @@ property_covers version.Two tasks r bytes =
     subst (Covers Any (property_field tasks r ∷ []) bytes) (sym (kept_made is_one (is_property tasks r) bytes (byte_below_at 2 bytes)))
     (covers_made (Numbered w8 bytes) Any (property_field tasks r ∷ []) bytes (byte_below_at 2 bytes >>= λ n. kept (is_property tasks r (is_one n.0)) I5 bytes n) is_one (λ _ _. tt)
     (crossed_byte_covers (below 2) (λ n. is_property tasks r (is_one n)) bytes))
-
-pub unused_byte_covers : (v : Version) (value : ℕ) (bytes : List ℕ) → Covers Any (further_field v (unused_field w8 value)) bytes (unused_byte_at v value bytes)
-unfolding unused_byte_at
-unused_byte_covers version.One value bytes = (value, refl, tt)
-unused_byte_covers version.Two value bytes = covers_any (Numbered w8 bytes) (unused_field w8 value ∷ []) bytes _ (byte_covers (λ n. n == value) bytes)
-
-pub unused_16_covers : (v : Version) (value : ℕ) (bytes : List ℕ) → Covers Any (further_field v (unused_field w16 value)) bytes (unused_16_at v value bytes)
-unfolding unused_16_at
-unused_16_covers version.One value bytes = (value, refl, tt)
-unused_16_covers version.Two value bytes = covers_any (Numbered w16 bytes) (unused_field w16 value ∷ []) bytes _ (tested_covers w16 bytes (λ n. n == value))
 
 short_same : (n k : ℕ) → nat_lt (suc n) (suc k) ≡ nat_lt n k
 short_same n k =

@@ -4,22 +4,22 @@ use Rattle.std.proofs.Common.{Err, refl, sym, ap, subst, ◌∙◌, append_assoc
 use Rattle.std.proofs.lemmas.Bool.{and_parts, and_from, or_cases, eqb-true, eq-eqb, ne_eqb, leb-true, le-leb, lt-ltb, not-true, not_from_false, true≢false}
 use Rattle.std.proofs.lemmas.List.{append-nil, length-append, Elements.{All-get_or}, Sums.{list_all-from_AllPass}}
 use Rattle.std.proofs.Math.Seq.{get_or-append_seam}
-use Rattle.std.specs.{Prelude.{slice_index_or, nat_eq, not, IsTrue}, List.{list_any, list_all, zip, IsDistinct}}
+use Rattle.std.specs.{Prelude.{slice_index_or, nat_eq, not, All, IsTrue}, List.{list_any, list_all, zip, IsDistinct}}
 use Rattle.osek_values.specs.{Names.{AreNames}, Numbers.{res_no}, declared.numbers.ResNo.{ResNo}}
 use Rattle.oil_system.specs.declared.objects.{Alarm.{Alarm}, Resource.{Resource}, Action.{Action}}
 use Rattle.oil_system.specs.declared.objects.Action.TheVariants as action
 use Rattle.osek_standard.specs.declared.{objects.{Task.{Task}, Isr.{Isr}, Counter.{Counter}}, app.App.{App}}
-use Rattle.osek_standard.specs.Validity.{no_block, no_counter, no_resource, meet, owners, is_cycle_of, is_internal, IsAction, IsAlarmOf, IsOwner, IsValid, IsClosed, IsInternal, NoneNests}
-use Rattle.osek_standard.specs.{Tables.{Tables as AppTables}, Versions.{NamesNone}}
-use Rattle.osek_standard.specs.Apps.{is_site_in}
+use Rattle.osek_standard.specs.Validity.{no_block, no_counter, no_resource, meet, owners, is_cycle_of, is_internal, IsAction, IsAlarmOf, IsOwner, IsValid, IsInternal}
+use Rattle.osek_standard.specs.{Tables.{Tables as AppTables}, Versions.{NamesNone, TakesNone}}
+use Rattle.osek_standard.specs.Apps.{tables, is_site_in}
 use Rattle.image_model.specs.{declared.{site.Site.{Site}, image.{Image.{Image}, Version.{Version}}}, Sites.{IsSiteAt}, Versions.{FitsAlone, FitsVersion1Alone}}
 use Rattle.image_model.specs.declared.image.Version.TheVariants as version
 use Rattle.image_codec.specs.{declared.{parts.{Header.{Header}, Range.{Range}, Tables.{Tables}, Parts.{Parts}}, fault.Fault.{Fault}}, Spelling.{spelling, internal_number}}
-use Rattle.image_codec.specs.TableReading.{is_priority, is_activation, is_internal_number, internal_of, is_other, is_property}
+use Rattle.image_codec.specs.TableReading.{is_priority, is_activation, is_internal_number, internal_of, is_other, is_property, is_isr_priority, is_interrupt_ceiling}
 use Rattle.image_codec.specs.{Fits.{FitsTask, FitsAction, FitsBlock, FitsFormat}, BlockReading.{parts_at, all_at}, ImageReading.{parts_of}, Laws.{OneSpelling}}
 use Rattle.image_codec.proofs.{Spells.{done_with, ok_is}, FieldLaws.{is_fresh, GoodRange}}
 use Rattle.image_codec.proofs.TableLaws.{GoodTask, GoodIsr, GoodCounter, GoodAction, GoodAlarm, GoodResource, GoodMode, GoodTables, range_of, isr_range_of, counter_range_of}
-use Rattle.image_codec.proofs.VersionLaws.{IsFurther, IsProperty}
+use Rattle.image_codec.proofs.VersionLaws.{IsFurther, IsFurther16, IsProperty}
 use Rattle.image_codec.proofs.{BlockLaws.{Entry, GoodBlock}, PartsLaws.{header_of, parts_law, GoodHeader, GoodParts, spelling_is, all_again}}
 use Rattle.image_codec.proofs.{EachLaws.{each_of, here_of_all, here_distinct, here_fresh}, OwnerTests.{any_of_map, map_same}, WholeTables.{tables_of_parts}, Places.{get_or-zip}}
 use Rattle.image_codec.proofs.{BlockLoop.{length-zip}, BlocksOfValid.{good_blank, good_filled, good_leads, FitsSite, good_site, says_its_own}, DecodeLaws.{image_ext}}
@@ -83,6 +83,15 @@ good_further : (v : Version) (app : App) (sites : List (Option Site)) (value : �
 good_further version.One app sites value test k alone is small passes = is alone
 good_further version.Two app sites value test k alone is small passes = (small, passes)
 
+good_further_16 : (v : Version) (app : App) (sites : List (Option Site)) (value : ℕ) (test : ℕ → Bool) (k : ℕ) → FitsAlone v app sites
+    → (FitsVersion1Alone app sites → k ≡ value) → k < 2 ^ 16 → test k ≡ true → IsFurther16 v value test k
+good_further_16 version.One app sites value test k alone is small passes = is alone
+good_further_16 version.Two app sites value test k alone is small passes = (small, passes)
+
+takes_none : (v : Version) (app : App) (sites : List (Option Site)) → FitsAlone v app sites → v ≡ version.One → All (λ (x : Isr). TakesNone (tables app) x.first.0 x.count) app.isrs
+takes_none version.One app sites alone one = alone.tables.isr_resources
+takes_none version.Two app sites alone one = absurd cc
+
 good_property : (v : Version) (app : App) (sites : List (Option Site)) (tasks : List Task) (r : ℕ) (internal : Bool) → FitsAlone v app sites
     → (FitsVersion1Alone app sites → internal ≡ false) → is_property tasks r internal ≡ true → IsProperty v tasks r internal
 good_property version.One app sites tasks r internal alone is passes = is alone
@@ -135,11 +144,6 @@ module _ (i : Image) (fits : FitsFormat i) where
 
   abbrev v : IsValid (tables_of_parts p)
   v = i.app.valid
-
-  -- what no image brings yet
-  shut : NoneNests (tables_of_parts p)
-  unfolding IsClosed
-  shut = v.closed
 
   abbrev ranges_t : List Task → List (ℕ × ℕ)
   ranges_t xs = map (λ (x : Task). (x.first.0, x.count)) xs
@@ -205,7 +209,9 @@ module _ (i : Image) (fits : FitsFormat i) where
       record {
         fresh = here_fresh (λ (y : Isr). y.name) t.isrs e x l same v.isr_names;
         code = good_range (length p.blocks) x.first.0 x.count (owners t.tasks e []) (isr_range_of x) refl refl o.some o.inside v.few_blocks (ap (list_any (λ k. meet k (x.first.0, x.count))) earlier ∙ apart);
-        lowest = here_of_all (λ (y : Isr). y.priority ≡ 0) t.isrs e x l same shut.0;
+        priority = good_further i.version i.app i.sites 0 is_isr_priority x.priority i.its_version
+            (λ alone. here_of_all (λ (y : Isr). y.priority ≡ 0) t.isrs e x l same alone.tables.isr_priorities)
+            (here_of_all (λ (y : Isr). y.priority < 256) t.isrs e x l same v.isr_priorities) refl;
       }
 
   counter_here : (e : List Counter) (x : Counter) (l : List Counter) → e ++ x ∷ l ≡ t.counters → GoodCounter n t.tasks t.isrs e x
@@ -248,6 +254,7 @@ module _ (i : Image) (fits : FitsFormat i) where
   resource_here : (e : List Resource) (x : Resource) (l : List Resource) → e ++ x ∷ l ≡ t.resources → GoodResource i.version t.tasks e x
   resource_here e x l same =
       let c = here_of_all (λ (y : Resource). y.ceiling ≤ 131071) t.resources e x l same v.ceilings in
+      let interrupts = here_of_all (λ (y : Resource). y.interrupt_ceiling ≤ 256) t.resources e x l same v.interrupt_ceilings in
       let here : is_internal t.resources (length e) ≡ x.internal = ap (λ (rs : List Resource). is_internal rs (length e)) (sym same) ∙ ap (λ (y : Resource). y.internal) (get_or-append_seam e x l no_resource) in
       let others : x.internal ≡ false → list_all (λ (y : Task). is_other (length e) y.internal) t.tasks ≡ true = (λ takable.
       list_all-from_AllPass (λ (y : Task). is_other (length e) y.internal) t.tasks
@@ -259,7 +266,9 @@ module _ (i : Image) (fits : FitsFormat i) where
         property = good_property i.version i.app i.sites t.tasks (length e) x.internal i.its_version
             (λ alone. not-true x.internal (here_of_all (λ (y : Resource). IsTrue (not y.internal)) t.resources e x l same alone.tables.properties))
             (property_from t.tasks (length e) x.internal others);
-        no_interrupt_ceiling = here_of_all (λ (y : Resource). y.interrupt_ceiling ≡ 0) t.resources e x l same shut.1;
+        interrupt_ceiling = good_further_16 i.version i.app i.sites 0 is_interrupt_ceiling x.interrupt_ceiling i.its_version
+            (λ alone. here_of_all (λ (y : Resource). y.interrupt_ceiling ≡ 0) t.resources e x l same alone.tables.interrupt_ceilings)
+            (omega (arith, interrupts)) (le-leb x.interrupt_ceiling 256 interrupts);
       }
 
   mode_here : (e : List (List ℕ)) (x : List ℕ) (l : List (List ℕ)) → e ++ x ∷ l ≡ t.modes → GoodMode e x
@@ -280,7 +289,7 @@ module _ (i : Image) (fits : FitsFormat i) where
   good_block b lt =
       let f = All-get_or FitsBlock p.blocks b no_block lt fits.each_block in
       record {
-        blank = good_blank p v b lt;
+        blank = good_blank p v b lt (takes_none i.version i.app i.sites i.its_version);
         line = f.line;
         filled = good_filled p v b lt f.kind;
         leads = good_leads p v b lt;

@@ -7,6 +7,7 @@ use Rattle.osek_values.specs.declared.lock.Lock.TheVariants as lock
 use Rattle.osek_standard.specs.declared.block.Kind.{Kind}
 use Rattle.osek_standard.specs.declared.block.Kind.TheVariants as kind
 use Rattle.image_model.specs.CallNames as call
+use Rattle.image_model.specs.declared.image.Version.{Version}
 use Rattle.image_codec.specs.{declared.{fault.ImageRule.TheVariants.{I3, I5}, parts.Tables.{Tables}}, Spelling.{one, two, eight, kind_number, lock_number, operand_bytes}}
 use Rattle.image_codec.specs.Reading.{AreBytes, Read, ◌>>=◌, byte_at, byte_below_at, number_at, tested_at}
 use Rattle.image_codec.specs.BlockReading.{blank_kinds, is_allowed, is_takable, is_due, judged_at, kind_at, task_no_at, takable_at, alarm_no_at, events_at, locks, lock_of, lock_at, due_at, operands_at}
@@ -38,22 +39,22 @@ lock_again lock.ResumeOs = refl
 lock_again lock.DisableAll = refl
 lock_again lock.EnableAll = refl
 
-module _ (t : Tables) (b : ℕ) where
-  judged_ok : (bytes rest : List ℕ) (o : Option Kind) (x : Kind × List ℕ) → judged_at t b bytes rest o ≡ Ok x → (o ≡ Some x.0) × (is_allowed t b x.0 ≡ true) × (rest ≡ x.1)
+module _ (t : Tables) (b : ℕ) (v : Version) where
+  judged_ok : (bytes rest : List ℕ) (o : Option Kind) (x : Kind × List ℕ) → judged_at t b v bytes rest o ≡ Ok x → (o ≡ Some x.0) × (is_allowed t b v x.0 ≡ true) × (rest ≡ x.1)
   judged_ok bytes rest None x e = absurd cc
   judged_ok bytes rest (Some k) x e =
-      let g = kept_ok (is_allowed t b k) I5 bytes (k, rest) x e in
-      (ap (λ (p : Kind × List ℕ). Some p.0) g.1, subst (λ (p : Kind × List ℕ). is_allowed t b p.0 ≡ true) g.1 g.0, ap (λ (p : Kind × List ℕ). p.1) g.1)
+      let g = kept_ok (is_allowed t b v k) I5 bytes (k, rest) x e in
+      (ap (λ (p : Kind × List ℕ). Some p.0) g.1, subst (λ (p : Kind × List ℕ). is_allowed t b v p.0 ≡ true) g.1 g.0, ap (λ (p : Kind × List ℕ). p.1) g.1)
 
   pub record GoodBlank (k : Kind) : Type 0 where
     pub blank : slice_get blank_kinds (kind_number k) ≡ Some k
-    pub allowed : is_allowed t b k ≡ true
+    pub allowed : is_allowed t b v k ≡ true
 
-  pub kind_law : Spells (kind_at t b) (λ k. one (kind_number k)) GoodBlank
+  pub kind_law : Spells (kind_at t b v) (λ k. one (kind_number k)) GoodBlank
   unfolding kind_at
   kind_law = record {
     takes = λ bytes k rest fits e.
-        let a = bind_ok (byte_at bytes) (λ n. judged_at t b bytes n.1 (slice_get blank_kinds n.0)) (k, rest) e in
+        let a = bind_ok (byte_at bytes) (λ n. judged_at t b v bytes n.1 (slice_get blank_kinds n.0)) (k, rest) e in
         let g = judged_ok bytes a.0.1 (slice_get blank_kinds a.0.0) (k, rest) a.2 in
         let u = byte_takes bytes a.0.0 a.0.1 fits a.1 in
         let same : a.0.0 ≡ kind_number k = sym (number_of_blank a.0.0 k g.0) in (
@@ -61,7 +62,7 @@ module _ (t : Tables) (b : ℕ) where
           record { blank = ap (slice_get blank_kinds) (sym same) ∙ g.0; allowed = g.1 },
         );
     again = λ k rest good.
-        ap (judged_at t b (kind_number k ∷ rest) rest) good.blank ∙ kept_again (is_allowed t b k) I5 (kind_number k ∷ rest) (k, rest) good.allowed;
+        ap (judged_at t b v (kind_number k ∷ rest) rest) good.blank ∙ kept_again (is_allowed t b v k) I5 (kind_number k ∷ rest) (k, rest) good.allowed;
   }
 
 -- ---- operands

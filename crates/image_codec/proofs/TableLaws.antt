@@ -10,10 +10,10 @@ use Rattle.image_model.specs.declared.image.Version.{Version}
 use Rattle.image_codec.specs.declared.{fault.ImageRule.TheVariants.{I3, I5}, parts.{Header.{Header}, Range.{Range}, Tables.{Tables}}}
 use Rattle.image_codec.specs.Spelling.{one, two, four, eight, further, name_bytes, range_bytes, schedule_number, flag_number, internal_number, task_bytes, isr_bytes, counter_bytes, action_bytes, alarm_bytes}
 use Rattle.image_codec.specs.Spelling.{resource_bytes}
-use Rattle.image_codec.specs.Reading.{number_at, tested_at, byte_below_at, further_byte_at, unused_byte_at, unused_16_at, name_at, modes_at, range_at, entries_at}
+use Rattle.image_codec.specs.Reading.{number_at, tested_at, byte_below_at, further_byte_at, further_16_at, name_at, modes_at, range_at, entries_at}
 use Rattle.image_codec.specs.TableReading.{is_priority, is_activation, is_internal_number, internal_of, property_at, schedule_at, task_at, isr_at, counter_at, is_action_mask, action_of, action_at, is_start_time, is_start_cycle, alarm_at, resource_at}
-use Rattle.image_codec.specs.TableReading.{tables_at, task_with, isr_with, resource_with}
-use Rattle.image_codec.proofs.VersionLaws.{IsFurther, further_byte_law, IsProperty, property_law, unused_byte_law, unused_16_law}
+use Rattle.image_codec.specs.TableReading.{tables_at, task_with, is_isr_priority, isr_with, is_interrupt_ceiling, resource_with}
+use Rattle.image_codec.proofs.VersionLaws.{IsFurther, further_byte_law, IsFurther16, further_16_law, IsProperty, property_law}
 use Rattle.image_codec.proofs.Spells.{joined3, joined4, joined6, joined8, Spells, nothing_more, and_then, said, wide16, wide32, wide64, number_law, Tested, tested_byte_law}
 use Rattle.image_codec.proofs.Spells.{tested_number_law, GoodEntries, entries_law}
 use Rattle.image_codec.proofs.FieldLaws.{is_fresh, name_law, GoodRange, range_law, schedule_law}
@@ -111,13 +111,10 @@ isr_names xs = map (λ (x : Isr). x.name) xs
 abbrev pub isr_range_of : Isr → Range
 isr_range_of x = record { first = x.first; count = x.count }
 
-isr_is : (x : Isr) → x.priority ≡ 0 → x ≡ isr_with x.name (isr_range_of x)
-isr_is x lowest = λ i. record { name = x.name; first = x.first; count = x.count; priority = lowest i }
-
 pub record GoodIsr (n : Header) (tasks : List Task) (earlier : List Isr) (x : Isr) : Type 0 where
   pub fresh : is_fresh (isr_names earlier) x.name ≡ true
   pub code : GoodRange n.blocks (owners tasks earlier []) (isr_range_of x)
-  pub lowest : x.priority ≡ 0
+  pub priority : IsFurther n.version 0 is_isr_priority x.priority
 
 pub isr_law : (n : Header) (tasks : List Task) (earlier : List Isr) → Spells (isr_at n tasks earlier) (isr_bytes n.version) (GoodIsr n tasks earlier)
 unfolding isr_at
@@ -125,14 +122,15 @@ isr_law n tasks earlier =
     said (isr_at n tasks earlier) _ _ (isr_bytes n.version) (GoodIsr n tasks earlier)
     (and_then (name_at (isr_names earlier)) name_bytes _ (λ (x : Isr). x.name) _ _ _ (name_law (isr_names earlier)) (λ name _.
     and_then (range_at n.blocks (owners tasks earlier [])) (λ (r : Range). range_bytes r.first r.count) _ isr_range_of _ _ _ (range_law n.blocks (owners tasks earlier [])) (λ code _.
-    and_then (unused_byte_at n.version 0) (λ k. further n.version (one k)) (λ k. k ≡ 0) (λ (_ : Isr). 0) (λ _ rest. Ok (isr_with name code, rest)) (λ _. []) (λ _ x. x ≡ isr_with name code)
-    (unused_byte_law n.version 0 (omega arith)) (λ _ _. nothing_more (isr_with name code))
-    (λ k x good _. sym good))
+    and_then (further_byte_at n.version 0 is_isr_priority) (λ k. further n.version (one k)) _ (λ (x : Isr). x.priority)
+    (λ priority rest. Ok (isr_with name code priority, rest)) (λ _. []) (λ priority x. x ≡ isr_with name code priority)
+    (further_byte_law n.version 0 is_isr_priority) (λ priority _. nothing_more (isr_with name code priority))
+    (λ priority x _ is. ap (λ (y : Isr). y.priority) is))
     (λ code x _ good. ap isr_range_of good.1))
     (λ name x _ good. ap (λ (y : Isr). y.name) good.1.1))
-    (λ x. joined3 (name_bytes x.name) (range_bytes x.first x.count) (further n.version (one 0)))
-    (λ x good. record { fresh = good.0; code = good.1.0; lowest = ap (λ (y : Isr). y.priority) good.1.1.1 })
-    (λ x good. (good.fresh, (good.code, (refl, isr_is x good.lowest))))
+    (λ x. joined3 (name_bytes x.name) (range_bytes x.first x.count) (further n.version (one x.priority)))
+    (λ x good. record { fresh = good.0; code = good.1.0; priority = good.1.1.0 })
+    (λ x good. (good.fresh, (good.code, (good.priority, refl))))
 
 -- ---- counters
 
@@ -288,15 +286,12 @@ alarm_law n counters earlier =
 abbrev pub resource_names : List Resource → List (List ℕ)
 resource_names xs = map (λ (x : Resource). x.name) xs
 
-resource_is : (x : Resource) → x.interrupt_ceiling ≡ 0 → x ≡ resource_with x.name x.ceiling x.internal
-resource_is x none = λ i. record { name = x.name; ceiling = x.ceiling; internal = x.internal; interrupt_ceiling = none i }
-
 pub record GoodResource (v : Version) (tasks : List Task) (earlier : List Resource) (x : Resource) : Type 0 where
   pub fresh : is_fresh (resource_names earlier) x.name ≡ true
   pub ceiling_fits : x.ceiling < 2 ^ 32
   pub ceiling : is_at_most 131071 x.ceiling ≡ true
   pub property : IsProperty v tasks (length earlier) x.internal
-  pub no_interrupt_ceiling : x.interrupt_ceiling ≡ 0
+  pub interrupt_ceiling : IsFurther16 v 0 is_interrupt_ceiling x.interrupt_ceiling
 
 pub resource_law : (v : Version) (tasks : List Task) (earlier : List Resource) → Spells (resource_at v tasks earlier) (resource_bytes v) (GoodResource v tasks earlier)
 unfolding resource_at
@@ -305,22 +300,22 @@ resource_law v tasks earlier =
     (and_then (name_at (resource_names earlier)) name_bytes _ (λ (x : Resource). x.name) _ _ _ (name_law (resource_names earlier)) (λ name _.
     and_then (tested_at w32 (is_at_most 131071) I3) four _ (λ (x : Resource). x.ceiling) _ _ _ (tested_number_law w32 (2 ^ 32) wide32 (is_at_most 131071) I3) (λ ceiling _.
     and_then (property_at v tasks (length earlier)) (λ internal. further v (one (flag_number internal))) _ (λ (x : Resource). x.internal) _ _ _ (property_law v tasks (length earlier)) (λ internal _.
-    and_then (unused_16_at v 0) (λ k. further v (two k)) (λ k. k ≡ 0) (λ (_ : Resource). 0) (λ _ rest. Ok (resource_with name ceiling internal, rest)) (λ _. [])
-    (λ _ x. x ≡ resource_with name ceiling internal)
-    (unused_16_law v 0 (omega arith)) (λ _ _. nothing_more (resource_with name ceiling internal))
-    (λ k x good _. sym good))
+    and_then (further_16_at v 0 is_interrupt_ceiling) (λ k. further v (two k)) _ (λ (x : Resource). x.interrupt_ceiling)
+    (λ interrupts rest. Ok (resource_with name ceiling internal interrupts, rest)) (λ _. []) (λ interrupts x. x ≡ resource_with name ceiling internal interrupts)
+    (further_16_law v 0 is_interrupt_ceiling) (λ interrupts _. nothing_more (resource_with name ceiling internal interrupts))
+    (λ interrupts x _ is. ap (λ (y : Resource). y.interrupt_ceiling) is))
     (λ internal x _ good. ap (λ (y : Resource). y.internal) good.1))
     (λ ceiling x _ good. ap (λ (y : Resource). y.ceiling) good.1.1))
     (λ name x _ good. ap (λ (y : Resource). y.name) good.1.1.1))
-    (λ x. joined4 (name_bytes x.name) (four x.ceiling) (further v (one (flag_number x.internal))) (further v (two 0)))
+    (λ x. joined4 (name_bytes x.name) (four x.ceiling) (further v (one (flag_number x.internal))) (further v (two x.interrupt_ceiling)))
     (λ x good. record {
       fresh = good.0;
       ceiling_fits = good.1.0.0;
       ceiling = good.1.0.1;
       property = good.1.1.0;
-      no_interrupt_ceiling = ap (λ (y : Resource). y.interrupt_ceiling) good.1.1.1.1;
+      interrupt_ceiling = good.1.1.1.0;
     })
-    (λ x good. (good.fresh, ((good.ceiling_fits, good.ceiling), (good.property, (refl, resource_is x good.no_interrupt_ceiling)))))
+    (λ x good. (good.fresh, ((good.ceiling_fits, good.ceiling), (good.property, (good.interrupt_ceiling, refl)))))
 
 -- ---- modes
 

@@ -7,7 +7,7 @@ use Rattle.osek_values.specs.{Names.{AreNames}, Numbers.{res_no}, declared.numbe
 use Rattle.oil_system.specs.declared.objects.{Alarm.{Alarm}, Resource.{Resource}, Action.{Action}}
 use Rattle.oil_system.specs.declared.objects.Action.TheVariants as action
 use Rattle.osek_standard.specs.declared.{objects.{Task.{Task}, Isr.{Isr}, Counter.{Counter}}, block.{Block.{Block}, Kind.{Kind}}, app.App.{App}}
-use Rattle.osek_standard.specs.Validity.{no_block, no_counter, no_resource, meet, owners, is_cycle_of, is_internal, IsAction, IsAlarmOf, IsValid, IsClosed, IsInternal}
+use Rattle.osek_standard.specs.Validity.{no_block, no_counter, no_resource, meet, owners, is_cycle_of, is_internal, IsAction, IsAlarmOf, IsValid, IsInternal}
 use Rattle.osek_standard.specs.{Versions.{FitsVersion1, NamesNone}, Apps.{tables, is_site, is_site_in}}
 use Rattle.osek_standard.specs.declared.block.Kind.TheVariants as kind
 use Rattle.image_model.specs.{declared.{site.{Form.{Form}, Known.{Known}, Site.{Site}}, image.Version.{Version}}, Versions.{IsUnknown, SaysNothing, FitsAlone}}
@@ -17,13 +17,13 @@ use Rattle.image_model.specs.declared.site.Form.TheVariants as form
 use Rattle.image_model.specs.declared.site.Known.TheVariants as known
 use Rattle.image_model.specs.declared.image.Version.TheVariants as version
 use Rattle.image_codec.specs.{declared.parts.{Header.{Header}, Tables.{Tables}, Parts.{Parts}}, Spelling.{form_number, internal_number}, Fits.{FitsTask, FitsAction, FitsKind, FitsParts}}
-use Rattle.image_codec.specs.{BlockReading.{form_of}, TableReading.{is_priority, is_activation, is_internal_number, internal_of, is_other}}
+use Rattle.image_codec.specs.{BlockReading.{form_of}, TableReading.{is_priority, is_activation, is_internal_number, internal_of, is_other, is_isr_priority, is_interrupt_ceiling}}
 use Rattle.image_codec.proofs.{FieldLaws.{is_fresh, is_inside}, TableLaws.{GoodTask, GoodIsr, GoodCounter, GoodAction, GoodAlarm, GoodResource, GoodMode}, KindLaws.{GoodOperands}}
-use Rattle.image_codec.proofs.VersionLaws.{IsFurther, IsProperty}
+use Rattle.image_codec.proofs.VersionLaws.{IsFurther, IsFurther16, IsProperty}
 use Rattle.image_codec.proofs.{FoundLaws.{first_choice}, SiteLaws.{GoodSite}, BlockLaws.{unwayed, GoodBlock}, PartsLaws.{header_of, GoodParts}}
 use Rattle.image_codec.proofs.{EachLaws.{each_all, each_distinct, each_named, each_weaker, distinct_nil}, OwnerTests.{any_of_map, map_same}, WholeTables.{tables_of_parts}}
 use Rattle.image_codec.proofs.{Places.{each_at, get_or-zip}, BlockLoop.{length-zip}}
-use Rattle.image_codec.proofs.BlocksOfGood.{block_owned, task_owner, task_code, isr_owner, isr_code, counter_owner, tick_code}
+use Rattle.image_codec.proofs.BlocksOfGood.{block_owned, task_owner, task_code, isr_owner, isr_code, isr_takes_none, counter_owner, tick_code}
 
 -- ---- forms
 
@@ -107,6 +107,16 @@ module _ (tasks : List Task) (resources : List Resource) where
           | inr h ↦ absurd (named h)
         ],
       )
+
+-- ---- priorities of ISRs, and ceilings for interrupts
+
+isr_priority_range : (v : Version) (n : ℕ) → IsFurther v 0 is_isr_priority n → n < 256
+isr_priority_range version.One n e = let lowest : n ≡ 0 = e in omega (arith, lowest)
+isr_priority_range version.Two n good = good.0
+
+interrupt_ceiling_range : (v : Version) (n : ℕ) → IsFurther16 v 0 is_interrupt_ceiling n → n ≤ 256
+interrupt_ceiling_range version.One n e = let none : n ≡ 0 = e in omega (arith, none)
+interrupt_ceiling_range version.Two n good = leb-true n 256 good.1
 
 -- ---- alarms
 
@@ -225,13 +235,6 @@ module _ (p : Parts) (good : GoodParts p) where
       internal_by t.tasks t.resources p.version r says.1 says.0 (has_property r.0)
       (λ all. true≢false (sym (AllPass-from_list_all (λ (x : Task). is_other r.0 x.internal) t.tasks all k d lt) ∙ ap (is_other r.0) is ∙ ap not (eq-eqb r.0 r.0 refl)))
 
-  closed_parts : IsClosed (tables_of_parts p)
-  unfolding IsClosed
-  closed_parts = (
-    each_all (GoodIsr n t.tasks) (λ (x : Isr). x.priority ≡ 0) (λ e x g. g.lowest) t.isrs good.tables.isrs.1,
-    each_all (GoodResource n.version t.tasks) (λ (x : Resource). x.interrupt_ceiling ≡ 0) (λ e x g. g.no_interrupt_ceiling) t.resources good.tables.resources.1,
-  )
-
   pub valid_parts : IsValid (tables_of_parts p)
   valid_parts = record {
     known_hooks = ltb-true _ _ good.header.hooks.1;
@@ -258,7 +261,7 @@ module _ (p : Parts) (good : GoodParts p) where
     internals = λ k d lt. internal_is k d lt (get_or t.tasks k d).internal refl;
     each_isr = λ k d lt. let code = isrs_inside k d lt in isr_owner p good.same block_fact k d lt (some_of _ _ _ code) (inside_of _ _ _ code);
     isr_code = λ k d lt. let code = isrs_inside k d lt in isr_code p good.same block_fact k d lt (inside_of _ _ _ code);
-    isr_priorities = each_all (GoodIsr n t.tasks) (λ (x : Isr). x.priority < 256) (λ e x g. omega (arith, g.lowest)) t.isrs good.tables.isrs.1;
+    isr_priorities = each_all (GoodIsr n t.tasks) (λ (x : Isr). x.priority < 256) (λ e x g. isr_priority_range n.version x.priority g.priority) t.isrs good.tables.isrs.1;
     each_counter = λ k d lt.
         let code = counters_inside k d lt in (
           each_all (GoodCounter n t.tasks t.isrs) (λ (x : Counter). 1 ≤ x.max) (λ e x g. ltb-true _ _ g.max_some) t.counters good.tables.counters.1 k d lt,
@@ -271,10 +274,9 @@ module _ (p : Parts) (good : GoodParts p) where
     no_starts = each_all (GoodAlarm n t.counters) (λ (x : Alarm). x.autostart ≡ 0 → (x.time ≡ 0) × (x.cycle ≡ 0))
         (λ e x g none. (start_none (eqb x.autostart 0) _ x.time (eq-eqb x.autostart 0 none) g.time, start_none (eqb x.autostart 0) _ x.cycle (eq-eqb x.autostart 0 none) g.cycle)) t.alarms good.tables.alarms.1;
     ceilings = each_all (GoodResource n.version t.tasks) (λ (x : Resource). x.ceiling ≤ 131071) (λ e x g. leb-true _ _ g.ceiling) t.resources good.tables.resources.1;
-    interrupt_ceilings = each_all (GoodResource n.version t.tasks) (λ (x : Resource). x.interrupt_ceiling ≤ 256) (λ e x g. omega (arith, g.no_interrupt_ceiling)) t.resources good.tables.resources.1;
+    interrupt_ceilings = each_all (GoodResource n.version t.tasks) (λ (x : Resource). x.interrupt_ceiling ≤ 256) (λ e x g. interrupt_ceiling_range n.version x.interrupt_ceiling g.interrupt_ceiling) t.resources good.tables.resources.1;
     apart = apart_c;
     owned = block_owned p good.same block_fact;
-    closed = closed_parts;
   }
 
   version_1_parts : p.version ≡ version.One → FitsVersion1 (tables_of_parts p)
@@ -286,6 +288,10 @@ module _ (p : Parts) (good : GoodParts p) where
         (λ e x g. ap not (subst (λ (v : Version). IsProperty v t.tasks (length e) x.internal) one g.property)) t.resources good.tables.resources.1;
     internals = each_all (GoodTask n) (λ (x : Task). NamesNone x.internal)
         (λ e x g. names_none x.internal g.internal_again (subst (λ (v : Version). IsFurther v 0xff (is_internal_number (length t.resources)) (internal_number x.internal)) one g.internal)) t.tasks good.tables.tasks.1;
+    isr_priorities = each_all (GoodIsr n t.tasks) (λ (x : Isr). x.priority ≡ 0) (λ e x g. subst (λ (v : Version). IsFurther v 0 is_isr_priority x.priority) one g.priority) t.isrs good.tables.isrs.1;
+    isr_resources = λ k d lt. isr_takes_none p good.same block_fact k d lt one (inside_of _ _ _ (isrs_inside k d lt));
+    interrupt_ceilings = each_all (GoodResource n.version t.tasks) (λ (x : Resource). x.interrupt_ceiling ≡ 0)
+        (λ e x g. subst (λ (v : Version). IsFurther16 v 0 is_interrupt_ceiling x.interrupt_ceiling) one g.interrupt_ceiling) t.resources good.tables.resources.1;
   }
 
   pub alone_parts : (app : App) → tables app ≡ tables_of_parts p → FitsAlone p.version app p.sites

@@ -1,13 +1,13 @@
 -- Readers of what the versions differ in, and their spellings: the magic, and the fields that version 2 alone has.
-use Rattle.std.proofs.Common.{◌≡◌, ℕ, ◌^◌, ◌<◌, ◌≤◌, Bool, false, inl, inr, eqb, ltb, List, ◌++◌, length, take, drop, Some, None, refl, sym, ap, subst, ◌∙◌, arith}
+use Rattle.std.proofs.Common.{◌≡◌, ℕ, ◌^◌, ◌<◌, ◌≤◌, Bool, false, inl, inr, ltb, List, ◌++◌, length, take, drop, Some, None, refl, sym, ap, subst, ◌∙◌, arith}
 use Rattle.std.specs.{Int.{w16}, Str.{bytes_eq}}
-use Rattle.std.proofs.lemmas.{Bool.{ltb-false, le-ltb, eqb-true, eq-eqb}, List.{take_at, drop_at, take-append-drop, length-append, length-take}}
+use Rattle.std.proofs.lemmas.{Bool.{ltb-false, le-ltb}, List.{take_at, drop_at, take-append-drop, length-append, length-take}}
 use Rattle.osek_standard.specs.declared.objects.Task.{Task}
 use Rattle.image_model.specs.declared.image.Version.{Version}
 use Rattle.image_model.specs.declared.image.Version.TheVariants as version
 use Rattle.image_codec.specs.{declared.fault.ImageRule.TheVariants.{I1, I2, I3, I5}, Spelling.{one, two, magic, further, flag_number}}
-use Rattle.image_codec.specs.{Reading.{Read, fault_at, text_at, flag_at, further_byte_at, unused_byte_at, unused_16_at}, TableReading.{version_of, version_at, is_property, property_at}}
-use Rattle.image_codec.proofs.{Spells.{AreBytes-drop, enough_ok, Takes, Spells, nothing_more, said, wide16, Tested, tested_law, tested_byte_law, tested_number_law}, FieldLaws.{bytes_eq_is, flag_law}}
+use Rattle.image_codec.specs.{Reading.{Read, fault_at, text_at, flag_at, further_byte_at, further_16_at}, TableReading.{version_of, version_at, is_property, property_at}}
+use Rattle.image_codec.proofs.{Spells.{AreBytes-drop, enough_ok, Takes, Spells, nothing_more, wide16, Tested, tested_law, tested_byte_law, tested_number_law}, FieldLaws.{bytes_eq_is, flag_law}}
 use Rattle.image_codec.proofs.FoundLaws.{first_choice, found_law}
 
 -- ---- the magic
@@ -61,6 +61,16 @@ unfolding further_byte_at
 further_byte_law version.One value test = nothing_more value
 further_byte_law version.Two value test = tested_byte_law test I3
 
+-- the same of a number of two bytes
+abbrev pub IsFurther16 : Version → ℕ → (ℕ → Bool) → ℕ → Type 0
+IsFurther16 version.One value test n = n ≡ value
+IsFurther16 version.Two value test n = Tested test (λ k. k < 2 ^ 16) n
+
+pub further_16_law : (v : Version) (value : ℕ) (test : ℕ → Bool) → Spells (further_16_at v value test) (λ n. further v (two n)) (IsFurther16 v value test)
+unfolding further_16_at
+further_16_law version.One value test = nothing_more value
+further_16_law version.Two value test = tested_number_law w16 (2 ^ 16) wide16 test I3
+
 -- a property that goes with the tasks that name the resource
 abbrev pub IsProperty : Version → List Task → ℕ → Bool → Type 0
 IsProperty version.One tasks r internal = internal ≡ false
@@ -70,17 +80,3 @@ pub property_law : (v : Version) (tasks : List Task) (r : ℕ) → Spells (prope
 unfolding property_at
 property_law version.One tasks r = nothing_more false
 property_law version.Two tasks r = tested_law flag_at (λ internal. one (flag_number internal)) (λ _. Unit {0}) (is_property tasks r) I5 flag_law
-
-pub unused_byte_law : (v : Version) (value : ℕ) → value < 256 → Spells (unused_byte_at v value) (λ n. further v (one n)) (λ n. n ≡ value)
-unfolding unused_byte_at
-unused_byte_law version.One value small = nothing_more value
-unused_byte_law version.Two value small =
-    said _ one (Tested (λ n. eqb n value) (λ n. n < 256)) one (λ n. n ≡ value) (tested_byte_law (λ n. eqb n value) I3)
-    (λ n. refl) (λ n good. eqb-true n value good.1) (λ n e. (omega (arith, e, small), eq-eqb n value e))
-
-pub unused_16_law : (v : Version) (value : ℕ) → value < 2 ^ 16 → Spells (unused_16_at v value) (λ n. further v (two n)) (λ n. n ≡ value)
-unfolding unused_16_at
-unused_16_law version.One value small = nothing_more value
-unused_16_law version.Two value small =
-    said _ two (Tested (λ n. eqb n value) (λ n. n < 2 ^ 16)) two (λ n. n ≡ value) (tested_number_law w16 (2 ^ 16) wide16 (λ n. eqb n value) I3)
-    (λ n. refl) (λ n good. eqb-true n value good.1) (λ n e. (omega (arith, e, small), eq-eqb n value e))

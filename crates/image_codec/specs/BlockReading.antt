@@ -10,6 +10,7 @@ use Rattle.osek_standard.specs.declared.{objects.{Task.{Task}, Isr.{Isr}, Counte
 use Rattle.osek_standard.specs.declared.block.Kind.TheVariants as kind
 use Rattle.image_model.specs.CallNames as call
 use Rattle.osek_standard.specs.Validity.{owners, is_within, task_may, isr_may, due_of, is_internal}
+use Rattle.osek_standard.specs.Versions.{is_for_resource}
 use Rattle.image_codec.specs.declared.fault.ImageRule.TheVariants.{I3, I5, I6}
 use Rattle.image_model.specs.declared.site.{Form.{Form}, Known.{Known}, Site.{Site}}
 use Rattle.image_model.specs.declared.site.Form.TheVariants as form
@@ -58,6 +59,11 @@ isr_range x = (x.first.0, x.count)
 
 abbrev pub counter_range : Counter → ℕ × ℕ
 counter_range x = (x.first.0, x.count)
+
+-- which kinds stand in an ISR's code: in version 1 none that takes a resource or gives one back
+abbrev pub isr_may_in : Version → Bool → Kind → Bool
+isr_may_in version.One last k = not (is_for_resource k) && isr_may last k
+isr_may_in version.Two last k = isr_may last k
 
 abbrev pub events_at : List ℕ → Read ℕ
 events_at bytes = tested_at w64 (λ m. nat_lt 0 m) I3 bytes
@@ -135,8 +141,8 @@ module _ (t : Tables) (b : ℕ) where
   abbrev pub tasks_allow : Kind → Bool
   tasks_allow k = list_all (λ (x : Task). where_has b (task_range x) (task_may (b + 1 == x.first.0 + x.count) k)) t.tasks
 
-  abbrev pub isrs_allow : Kind → Bool
-  isrs_allow k = list_all (λ (x : Isr). where_has b (isr_range x) (isr_may (b + 1 == x.first.0 + x.count) k)) t.isrs
+  abbrev pub isrs_allow : Version → Kind → Bool
+  isrs_allow v k = list_all (λ (x : Isr). where_has b (isr_range x) (isr_may_in v (b + 1 == x.first.0 + x.count) k)) t.isrs
 
   -- a tick routine has CountUp, an Expire for each alarm of its counter, and IsrEnd
   abbrev pub counter_allows : Kind → ℕ × Counter → Bool
@@ -150,8 +156,8 @@ module _ (t : Tables) (b : ℕ) where
   abbrev pub is_owned : Bool
   is_owned = list_any (is_within b) (owners t.tasks t.isrs t.counters)
 
-  abbrev pub is_allowed : Kind → Bool
-  is_allowed k = is_owned && tasks_allow k && isrs_allow k && counters_allow k
+  abbrev pub is_allowed : Version → Kind → Bool
+  is_allowed v k = is_owned && tasks_allow k && isrs_allow v k && counters_allow k
 
   -- the alarm is the one that is due here
   abbrev pub is_due : ℕ → Bool
@@ -165,14 +171,14 @@ module _ (t : Tables) (b : ℕ) where
       && list_all (λ (x : Counter). where_has b (counter_range x) (n == b + 1)) t.counters
 
   -- the kind of a number, if there is one and it may stand here
-  abbrev pub judged_at : List ℕ → List ℕ → Option Kind → Read Kind
-  judged_at bytes rest None = Err (fault_at I3 bytes)
-  judged_at bytes rest (Some k) = kept (is_allowed k) I5 bytes (k, rest)
+  abbrev pub judged_at : Version → List ℕ → List ℕ → Option Kind → Read Kind
+  judged_at v bytes rest None = Err (fault_at I3 bytes)
+  judged_at v bytes rest (Some k) = kept (is_allowed v k) I5 bytes (k, rest)
 
-  unfoldable pub kind_at : List ℕ → Read Kind
-  kind_at bytes = do
+  unfoldable pub kind_at : Version → List ℕ → Read Kind
+  kind_at v bytes = do
     n ← byte_at bytes
-    judged_at bytes n.1 (slice_get blank_kinds n.0)
+    judged_at v bytes n.1 (slice_get blank_kinds n.0)
 
   abbrev pub task_no_at : List ℕ → Read ℕ
   task_no_at bytes = byte_below_at (length t.tasks) bytes
@@ -250,7 +256,7 @@ module _ (t : Tables) (blocks b : ℕ) where
 
   unfoldable pub block_at : Version → List ℕ → Read (Block × Option Site)
   block_at v bytes = do
-    blank ← kind_at t b bytes
+    blank ← kind_at t b v bytes
     locked ← flag_at blank.1
     line ← number_at w32 locked.1
     filled ← operands_at t b blank.0 line.1

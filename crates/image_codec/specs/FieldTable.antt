@@ -3,7 +3,7 @@
 use Rattle.std.specs.Prelude.{ℕ, zero, suc, ◌+◌, ◌^◌, Bool, true, ◌||◌, ◌&&◌, not, nat_lt, nat_le, ◌==◌, List, [], ◌∷◌, ◌++◌, length, map, take, drop, slice_index, slice_index_or, Option, Some, None, Ok, Err, if◌then◌else◌}
 use Rattle.std.specs.{Int.{Width, w8, w16, w32, w64, byte_len, from_be_bytes}, List.{list_any, list_all}, Str.{bytes_eq}}
 use Rattle.osek_values.specs.{declared.limits.TheConstants.{MAX_TASKS, MAX_ISRS, MAX_COUNTERS, MAX_ALARMS, MAX_RESOURCES, MAX_MODES, MAX_BLOCKS, MAX_NAME}, Names.{is_name}}
-use Rattle.oil_system.specs.{declared.objects.{Alarm.{Alarm}, Resource.{Resource}}, Objects.{greatest_ceiling}}
+use Rattle.oil_system.specs.{declared.objects.{Alarm.{Alarm}, Resource.{Resource}}, Objects.{greatest_ceiling, greatest_interrupt_ceiling}}
 use Rattle.osek_standard.specs.declared.{objects.{Task.{Task}, Isr.{Isr}, Counter.{Counter}}, block.Kind.{Kind}}
 use Rattle.osek_standard.specs.declared.block.Kind.TheVariants as kind
 use Rattle.image_model.specs.CallNames as call
@@ -56,10 +56,6 @@ magic_field = record { size = λ _. 8; broken = λ bytes. if bytes_eq bytes (mag
 abbrev pub further_field : Version → Field → List Field
 further_field version.One f = []
 further_field version.Two f = f ∷ []
-
--- a number that nothing uses yet is always this one
-abbrev pub unused_field : Width → ℕ → Field
-unused_field w value = field w (λ n. n == value) any
 
 -- a name: its length, and so many bytes, where it is the length of a name
 abbrev pub is_name_len : ℕ → Bool
@@ -157,7 +153,7 @@ isr_head earlier = name_field (map (λ (x : Isr). x.name) earlier) ∷ []
 abbrev pub isr_fields : Header → List Task → List Isr → List ℕ → List Field
 isr_fields n tasks earlier bytes =
     isr_head earlier ++ (range_fields n.blocks (owners tasks earlier []) (behind (isr_head earlier) bytes)
-    ++ further_field n.version (unused_field w8 0))
+    ++ further_field n.version (field w8 any any))
 
 -- MINCYCLE is at most MAXALLOWEDVALUE
 abbrev pub counter_head : List Counter → List ℕ → List Field
@@ -192,7 +188,7 @@ property_field tasks r = field w8 (below 2) (λ n. (n == 1) || list_all (λ (x :
 abbrev pub resource_fields : Version → List Task → List Resource → List Field
 resource_fields v tasks earlier =
     name_field (map (λ (x : Resource). x.name) earlier) ∷ field w32 (at_most greatest_ceiling) any
-    ∷ (further_field v (property_field tasks (length earlier)) ++ further_field v (unused_field w16 0))
+    ∷ (further_field v (property_field tasks (length earlier)) ++ further_field v (field w16 (at_most greatest_interrupt_ceiling) any))
 
 -- ---- block b of so many, beside the tables
 
@@ -209,8 +205,8 @@ abbrev pub is_known : ℕ → Bool
 is_known n = (n == 0xff) || nat_lt n 10
 
 module _ (t : Tables) (blocks b : ℕ) where
-  abbrev pub kind_field : Field
-  kind_field = field w8 (below 26) (λ n. is_allowed t b (kind_of_number n))
+  abbrev pub kind_field : Version → Field
+  kind_field v = field w8 (below 26) (λ n. is_allowed t b v (kind_of_number n))
 
   abbrev pub task_field : Field
   task_field = field w8 (below (length t.tasks)) any
@@ -257,7 +253,7 @@ module _ (t : Tables) (blocks b : ℕ) where
   abbrev pub block_fields : Version → List ℕ → List Field
   block_fields v bytes =
       let k = kind_of_number (slice_index bytes 0) in
-      kind_field ∷ field w8 (below 2) any ∷ field w32 any any ∷ (call_fields k ++ (way_fields k ++ site_fields v k))
+      kind_field v ∷ field w8 (below 2) any ∷ field w32 any any ∷ (call_fields k ++ (way_fields k ++ site_fields v k))
 
 -- the first fault of so many blocks from block b on
 abbrev pub or_else : Option Fault → Option Fault → Option Fault

@@ -75,14 +75,10 @@ unfoldable pub further_byte_at : Version → ℕ → (ℕ → Bool) → List ℕ
 further_byte_at version.One value test bytes = Ok (value, bytes)
 further_byte_at version.Two value test bytes = tested_byte_at test I3 bytes
 
--- A number that version 2 alone has, and that is this one as long as nothing uses it.
-unfoldable pub unused_byte_at : Version → ℕ → List ℕ → Read ℕ
-unused_byte_at version.One value bytes = Ok (value, bytes)
-unused_byte_at version.Two value bytes = tested_byte_at (λ n. n == value) I3 bytes
-
-unfoldable pub unused_16_at : Version → ℕ → List ℕ → Read ℕ
-unused_16_at version.One value bytes = Ok (value, bytes)
-unused_16_at version.Two value bytes = tested_at w16 (λ n. n == value) I3 bytes
+-- the same of a number of two bytes
+unfoldable pub further_16_at : Version → ℕ → (ℕ → Bool) → List ℕ → Read ℕ
+further_16_at version.One value test bytes = Ok (value, bytes)
+further_16_at version.Two value test bytes = tested_at w16 test I3 bytes
 
 -- so many bytes, in a field before which so many were left
 abbrev pub text_at : ℕ → ℕ → List ℕ → Read (List ℕ)

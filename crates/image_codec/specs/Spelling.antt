@@ -67,9 +67,9 @@ task_bytes v x =
     name_bytes x.name ++ two x.priority ++ one (schedule_number x.schedule) ++ eight x.own.0 ++ one x.autostart
     ++ range_bytes x.first x.count ++ further v (one x.activation) ++ further v (one (internal_number x.internal))
 
--- an ISR has its priority, which is 0;
+-- an ISR has its priority;
 abbrev pub isr_bytes : Version → Isr → List ℕ
-isr_bytes v x = name_bytes x.name ++ range_bytes x.first x.count ++ further v (one 0)
+isr_bytes v x = name_bytes x.name ++ range_bytes x.first x.count ++ further v (one x.priority)
 
 abbrev pub counter_bytes : Counter → List ℕ
 counter_bytes x = name_bytes x.name ++ four x.max ++ four x.min_cycle ++ range_bytes x.first x.count
@@ -82,9 +82,9 @@ abbrev pub alarm_bytes : Alarm → List ℕ
 alarm_bytes x =
     name_bytes x.name ++ one x.counter.0 ++ action_bytes x.action ++ one x.autostart ++ four x.time ++ four x.cycle
 
--- and a resource its property, which is 1 for an INTERNAL one, and the ceiling of the interrupts, which is 0.
+-- and a resource its property, which is 1 for an INTERNAL one, and its ceiling for interrupts.
 abbrev pub resource_bytes : Version → Resource → List ℕ
-resource_bytes v x = name_bytes x.name ++ four x.ceiling ++ further v (one (flag_number x.internal)) ++ further v (two 0)
+resource_bytes v x = name_bytes x.name ++ four x.ceiling ++ further v (one (flag_number x.internal)) ++ further v (two x.interrupt_ceiling)
 
 abbrev pub lock_number : Lock → ℕ
 lock_number lock.SuspendAll = 0

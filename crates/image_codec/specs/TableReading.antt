@@ -5,10 +5,10 @@ use Rattle.osek_values.specs.{declared.limits.TheConstants.{MAX_TASKS, MAX_ISRS,
 use Rattle.osek_values.specs.{Numbers.{task_no, counter_no, res_no, mask}, declared.numbers.ResNo.{ResNo}}
 use Rattle.oil_system.specs.declared.objects.{Alarm.{Alarm}, Resource.{Resource}, Schedule.{Schedule, TheVariants.{Non, Full}}, Action.{Action}}
 use Rattle.oil_system.specs.declared.objects.Action.TheVariants as action
-use Rattle.oil_system.specs.Objects.{greatest_ceiling}
+use Rattle.oil_system.specs.Objects.{greatest_ceiling, greatest_interrupt_ceiling}
 use Rattle.osek_standard.specs.{declared.objects.{Task.{Task}, Isr.{Isr}, Counter.{Counter}}, Validity.{no_counter, is_cycle_of, owners}}
 use Rattle.image_codec.specs.{declared.{fault.ImageRule.TheVariants.{I2, I3, I5}, parts.{Header.{Header}, Range.{Range}, Tables.{Tables}}}, Spelling.{magic}}
-use Rattle.image_codec.specs.Reading.{Read, ◌>>=◌, kept, number_at, tested_byte_at, tested_at, byte_below_at, flag_at, text_at, found_at, further_byte_at, unused_byte_at, unused_16_at, name_at, modes_at, range_at, entries_at}
+use Rattle.image_codec.specs.Reading.{Read, ◌>>=◌, kept, number_at, tested_byte_at, tested_at, byte_below_at, flag_at, text_at, found_at, further_byte_at, further_16_at, name_at, modes_at, range_at, entries_at}
 use Rattle.image_model.specs.declared.image.Version.{Version}
 use Rattle.image_model.specs.declared.image.Version.TheVariants as version
 
@@ -95,16 +95,19 @@ task_at n earlier bytes = do
   internal ← further_byte_at n.version 0xff (is_internal_number n.resources) activation.1
   Ok (task_with name.0 priority.0 schedule.0 own.0 autostart.0 code.0 activation.0 internal.0, internal.1)
 
--- an ISR that is read has the lowest priority
-abbrev pub isr_with : List ℕ → Range → Isr
-isr_with name code = record { name = name; first = code.first; count = code.count; priority = 0 }
+-- each byte is the priority of an ISR
+abbrev pub is_isr_priority : ℕ → Bool
+is_isr_priority n = true
+
+abbrev pub isr_with : List ℕ → Range → ℕ → Isr
+isr_with name code priority = record { name = name; first = code.first; count = code.count; priority = priority }
 
 unfoldable pub isr_at : Header → List Task → List Isr → List ℕ → Read Isr
 isr_at n tasks earlier bytes = do
   name ← name_at (map (λ (x : Isr). x.name) earlier) bytes
   code ← range_at n.blocks (owners tasks earlier []) name.1
-  priority ← unused_byte_at n.version 0 code.1
-  Ok (isr_with name.0 code.0, priority.1)
+  priority ← further_byte_at n.version 0 is_isr_priority code.1
+  Ok (isr_with name.0 code.0 priority.0, priority.1)
 
 unfoldable pub counter_at : Header → List Task → List Isr → List Counter → List ℕ → Read Counter
 counter_at n tasks isrs earlier bytes = do
@@ -161,17 +164,19 @@ property_at version.Two tasks r bytes = do
   internal ← flag_at bytes
   kept (is_property tasks r internal.0) I5 bytes internal
 
--- a resource that is read keeps no ISR out
-abbrev pub resource_with : List ℕ → ℕ → Bool → Resource
-resource_with name ceiling internal = record { name = name; ceiling = ceiling; internal = internal; interrupt_ceiling = 0 }
+abbrev pub is_interrupt_ceiling : ℕ → Bool
+is_interrupt_ceiling n = nat_le n greatest_interrupt_ceiling
+
+abbrev pub resource_with : List ℕ → ℕ → Bool → ℕ → Resource
+resource_with name ceiling internal interrupts = record { name = name; ceiling = ceiling; internal = internal; interrupt_ceiling = interrupts }
 
 unfoldable pub resource_at : Version → List Task → List Resource → List ℕ → Read Resource
 resource_at v tasks earlier bytes = do
   name ← name_at (map (λ (x : Resource). x.name) earlier) bytes
   ceiling ← tested_at w32 (λ c. nat_le c greatest_ceiling) I3 name.1
   property ← property_at v tasks (length earlier) ceiling.1
-  interrupt_ceiling ← unused_16_at v 0 property.1
-  Ok (resource_with name.0 ceiling.0 property.0, interrupt_ceiling.1)
+  interrupts ← further_16_at v 0 is_interrupt_ceiling property.1
+  Ok (resource_with name.0 ceiling.0 property.0 interrupts.0, interrupts.1)
 
 -- the tables in order
 unfoldable pub tables_at : Header → List ℕ → Read Tables

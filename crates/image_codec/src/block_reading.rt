@@ -16,16 +16,21 @@ use osek_values::{BlockNo, Seq};
 use std::alloc::Global;
 
 #[tactic(auto, unfolding(crate::specs::BlockReading::kind_at))]
-fn kind(reader: &mut Reader, tables: &Tables, block: u16) -> Result<Kind, ReadError>
+fn kind(
+    reader: &mut Reader,
+    version: Version,
+    tables: &Tables,
+    block: u16,
+) -> Result<Kind, ReadError>
     requires { AreSmall tables.now }
-    ensures { Gives (λ x. x) result reader.new (kind_at tables.now block reader.old) }
+    ensures { Gives (λ x. x) result reader.new (kind_at tables.now block version reader.old) }
 {
     let left = reader.left();
     let number = reader.byte()?;
     match blank_kind(number) {
         None => Err(fault(ImageRule::I3, left)),
         Some(kind) => {
-            if is_allowed(tables, block, kind) {
+            if is_allowed(version, tables, block, kind) {
                 Ok(kind)
             } else {
                 Err(fault(ImageRule::I5, left))
@@ -45,7 +50,7 @@ fn block(
     requires { AreSmall tables.now }
     ensures { Gives (λ x. x) result reader.new (block_at tables.now blocks block version reader.old) }
 {
-    let blank = kind(reader, tables, block)?;
+    let blank = kind(reader, version, tables, block)?;
     let locked = reader.flag()?;
     let line = reader.number_32()?;
     let filled = operands(reader, tables, block, blank)?;

@@ -77,13 +77,12 @@ fn put_task(out: &mut Vec<u8>, version: Version, task: &Task) -> Result<(), Allo
     put_further(out, version, &[internal_number(task.internal)])
 }
 
-/// Each ISR has priority 0.
 fn put_isr(out: &mut Vec<u8>, version: Version, isr: &Isr) -> Result<(), AllocError>
     ensures { OnOk result (out.new.items ≡ out.old.items ++ isr_bytes version isr.now) }
 {
     put_name(out, &isr.name)?;
     put_range(out, isr.first, isr.count)?;
-    put_further(out, version, &[0])
+    put_further(out, version, &[isr.priority])
 }
 
 fn put_counter(out: &mut Vec<u8>, counter: &Counter) -> Result<(), AllocError>
@@ -123,14 +122,13 @@ fn put_alarm(out: &mut Vec<u8>, alarm: &Alarm) -> Result<(), AllocError>
     out.extend_from_slice(&alarm.cycle.to_be_bytes())
 }
 
-/// Each resource is without a ceiling of interrupts.
 fn put_resource(out: &mut Vec<u8>, version: Version, resource: &Resource) -> Result<(), AllocError>
     ensures { OnOk result (out.new.items ≡ out.old.items ++ resource_bytes version resource.now) }
 {
     put_name(out, &resource.name)?;
     out.extend_from_slice(&resource.ceiling.to_be_bytes())?;
     put_further(out, version, &[resource.internal as u8])?;
-    put_further(out, version, &0u16.to_be_bytes())
+    put_further(out, version, &resource.interrupt_ceiling.to_be_bytes())
 }
 
 fn put_ticks(out: &mut Vec<u8>, alarm: AlarmNo, ticks: u64, cycle: u64) -> Result<(), AllocError>

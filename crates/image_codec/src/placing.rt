@@ -1,10 +1,10 @@
 //! Which kind of block may stand where, by the owners of blocks.
 ghost use Rattle.std.specs.{Prelude.{◌≡◌, ◌+◌, ◌-◌, ◌≤◌, ◌<◌, ◌^◌, ◌&&◌, ◌==◌, length, slice_index_or, if◌then◌else◌}, List.{list_any}};
-ghost use Rattle.osek_standard.specs.Validity.{is_within as is_among, task_may as may_in_task, isr_may as may_in_isr, due_of};
-ghost use Rattle.image_codec.specs.BlockReading.{AreSmall, tick_order as order_of_ticks, where_has, task_range, isr_range, tasks_allow as do_tasks_allow, isrs_allow as do_isrs_allow, counter_allows as does_counter_allow, counters_allow as do_counters_allow, is_owned as has_owner, is_allowed as may_stand, is_due_in as is_due_in_counter, is_due as is_the_due};
+ghost use Rattle.osek_standard.specs.{Validity.{is_within as is_among, task_may as may_in_task, isr_may as may_in_isr, due_of}, Versions.{is_for_resource as takes_or_gives}};
+ghost use Rattle.image_codec.specs.BlockReading.{AreSmall, tick_order as order_of_ticks, where_has, task_range, isr_range, isr_may_in as may_in_isr_of, tasks_allow as do_tasks_allow, isrs_allow as do_isrs_allow, counter_allows as does_counter_allow, counters_allow as do_counters_allow, is_owned as has_owner, is_allowed as may_stand, is_due_in as is_due_in_counter, is_due as is_the_due};
 
 use crate::parts::Tables;
-use image_model::{is_task_block, is_within};
+use image_model::{Version, is_task_block, is_within};
 use osek_standard::{Alarm, Call, Counter, Isr, Kind, Task};
 use osek_values::BlockNo;
 
@@ -25,8 +25,28 @@ fn isr_may(last: bool, kind: Kind) -> bool
 {
     match kind {
         Kind::IsrEnd => last,
-        Kind::Call(Call::Resource(_, _)) | Kind::TaskEnd | Kind::CountUp | Kind::Expire(_) => false,
+        Kind::TaskEnd | Kind::CountUp | Kind::Expire(_) => false,
         Kind::Work(_) | Kind::Choice(_) | Kind::Loop | Kind::Call(_) => !last,
+    }
+}
+
+/// Whether a block of a kind takes a resource or gives one back.
+fn is_for_resource(kind: Kind) -> bool
+    ensures { result ≡ takes_or_gives kind }
+{
+    match kind {
+        Kind::Call(Call::Resource(_, _)) => true,
+        _ => false,
+    }
+}
+
+/// Whether a kind may stand in an ISR's code, in a version of the format.
+fn isr_may_in(version: Version, last: bool, kind: Kind) -> bool
+    ensures { result ≡ may_in_isr_of version last kind }
+{
+    match version {
+        Version::One => !is_for_resource(kind) && isr_may(last, kind),
+        Version::Two => isr_may(last, kind),
     }
 }
 
@@ -59,13 +79,13 @@ fn task_allows(task: &Task, block: u16, kind: Kind) -> bool
     task_may(is_last(block, task.first, task.count), kind)
 }
 
-fn isr_allows(isr: &Isr, block: u16, kind: Kind) -> bool
-    ensures { result ≡ where_has block (isr_range isr.now) (may_in_isr (block + 1 == isr.now.first.0 + isr.now.count) kind) }
+fn isr_allows(version: Version, isr: &Isr, block: u16, kind: Kind) -> bool
+    ensures { result ≡ where_has block (isr_range isr.now) (may_in_isr_of version (block + 1 == isr.now.first.0 + isr.now.count) kind) }
 {
     if !is_within(block, isr.first, isr.count) {
         return true;
     }
-    isr_may(is_last(block, isr.first, isr.count), kind)
+    isr_may_in(version, is_last(block, isr.first, isr.count), kind)
 }
 
 /// How many alarms a counter has.
@@ -131,14 +151,14 @@ fn tasks_allow(tables: &Tables, block: u16, kind: Kind) -> bool
         .all(|task| task_allows(task, block, kind))
 }
 
-fn isrs_allow(tables: &Tables, block: u16, kind: Kind) -> bool
-    ensures { result ≡ do_isrs_allow tables.now block kind }
+fn isrs_allow(version: Version, tables: &Tables, block: u16, kind: Kind) -> bool
+    ensures { result ≡ do_isrs_allow tables.now block version kind }
 {
     tables
         .isrs
         .as_slice()
         .iter()
-        .all(|isr| isr_allows(isr, block, kind))
+        .all(|isr| isr_allows(version, isr, block, kind))
 }
 
 fn counters_allow(tables: &Tables, block: u16, kind: Kind) -> bool
@@ -178,14 +198,14 @@ fn is_owned(tables: &Tables, block: u16) -> bool
     task || routine
 }
 
-/// Whether a block of a kind may stand here.
-pub(crate) fn is_allowed(tables: &Tables, block: u16, kind: Kind) -> bool
+/// Whether a block of a kind may stand here, in a version of the format.
+pub(crate) fn is_allowed(version: Version, tables: &Tables, block: u16, kind: Kind) -> bool
     requires { AreSmall tables.now }
-    ensures { result ≡ may_stand tables.now block kind }
+    ensures { result ≡ may_stand tables.now block version kind }
 {
     let owned = is_owned(tables, block);
     let by_tasks = tasks_allow(tables, block, kind);
-    let by_isrs = isrs_allow(tables, block, kind);
+    let by_isrs = isrs_allow(version, tables, block, kind);
     let by_counters = counters_allow(tables, block, kind);
     let by_code = owned && by_tasks;
     let by_both = by_code && by_isrs;

@@ -4,7 +4,6 @@ ghost use Rattle.image_codec.specs.declared.fault.ImageRule.TheVariants.{I3};
 ghost use Rattle.osek_values.specs.declared.refused.Refused.TheVariants as refused;
 
 use crate::fault::{Fault, ImageRule, ReadError};
-use image_model::Version;
 use std::marker::Model;
 
 /// Bytes that are read from their front.
@@ -29,7 +28,7 @@ pub(crate) fn fault(rule: ImageRule, left: usize) -> ReadError
 }
 
 impl<'a> Reader<'a> {
-    ghost use Rattle.image_codec.specs.Reading.{Gives, byte_at, number_at, text_at, byte_below_at, unused_byte_at, unused_16_at, tested_at, flag_at, modes_at};
+    ghost use Rattle.image_codec.specs.Reading.{Gives, byte_at, number_at, text_at, byte_below_at, tested_at, flag_at, modes_at};
 
     /// Reads these bytes.
     pub fn new(bytes: &'a [u8]) -> Reader<'a>
@@ -120,42 +119,6 @@ impl<'a> Reader<'a> {
             return Err(fault(ImageRule::I3, left));
         }
         Ok(byte)
-    }
-
-    /// A byte that version 2 alone has, and that is this one as long as nothing uses it.
-    #[tactic(auto, unfolding(crate::specs::Reading::unused_byte_at, crate::specs::Reading::tested_byte_at))]
-    pub fn unused_byte(&mut self, version: Version, value: u8) -> Result<u8, ReadError>
-        ensures { Gives (λ x. x) result self.new (unused_byte_at version value self.old) }
-    {
-        match version {
-            Version::One => Ok(value),
-            Version::Two => {
-                let left = self.left();
-                let byte = self.byte()?;
-                if byte != value {
-                    return Err(fault(ImageRule::I3, left));
-                }
-                Ok(byte)
-            }
-        }
-    }
-
-    /// A number of two bytes that version 2 alone has, and that is this one as long as nothing uses it.
-    #[tactic(auto, unfolding(crate::specs::Reading::unused_16_at, crate::specs::Reading::tested_at))]
-    pub fn unused_16(&mut self, version: Version, value: u16) -> Result<u16, ReadError>
-        ensures { Gives (λ x. x) result self.new (unused_16_at version value self.old) }
-    {
-        match version {
-            Version::One => Ok(value),
-            Version::Two => {
-                let left = self.left();
-                let number = self.number_16()?;
-                if number != value {
-                    return Err(fault(ImageRule::I3, left));
-                }
-                Ok(number)
-            }
-        }
     }
 
     /// The number of one of so many blocks.

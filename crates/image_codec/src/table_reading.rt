@@ -1,7 +1,7 @@
 //! Reading the tables of an image.
 ghost use Rattle.std.specs.{Prelude.{◌≡◌, ◌≤◌, IfOk, [], nat_eq, nat_lt, nat_le, length}, Int.{w16, w32}, List.{list_any, list_all}};
-ghost use Rattle.image_codec.specs.Reading.{Gives, tested_at, further_byte_at, entries_at, name_at};
-ghost use Rattle.image_codec.specs.TableReading.{HasFew, is_priority, is_activation, is_internal_number, internal_of as internal_of_number, is_other, is_property, property_at};
+ghost use Rattle.image_codec.specs.Reading.{Gives, tested_at, further_byte_at, further_16_at, entries_at, name_at};
+ghost use Rattle.image_codec.specs.TableReading.{HasFew, is_priority, is_activation, is_internal_number, internal_of as internal_of_number, is_other, is_property, property_at, is_isr_priority, is_interrupt_ceiling};
 ghost use Rattle.image_codec.specs.TableReading.{schedule_of as schedule_of_number, schedule_at, task_at, isr_at, counter_at, alarm_at, resource_at, tables_at};
 ghost use Rattle.image_codec.specs.{BlockReading.{AreSmall}, declared.fault.ImageRule.TheVariants.{I3, I5}};
 
@@ -18,6 +18,9 @@ use std::alloc::Global;
 
 /// Above the greatest base priority, which is twice a number of 16 bits.
 const GREATEST_CEILING: u32 = 131_071;
+
+/// One more than the greatest priority of an ISR.
+const GREATEST_INTERRUPT_CEILING: u16 = 256;
 
 /// Whether some task has the priority.
 fn has_priority(tasks: &[Task], priority: u16) -> bool
@@ -154,6 +157,20 @@ fn task(
     })
 }
 
+/// The priority of an ISR: in version 1 it is 0.
+#[tactic(auto, unfolding(crate::specs::Reading::further_byte_at, crate::specs::Reading::tested_byte_at))]
+fn isr_priority(reader: &mut Reader, version: Version) -> Result<u8, ReadError>
+    ensures { Gives (λ x. x) result reader.new (further_byte_at version 0 is_isr_priority reader.old) }
+{
+    match version {
+        Version::One => Ok(0),
+        Version::Two => {
+            let priority = reader.byte()?;
+            Ok(priority)
+        }
+    }
+}
+
 #[tactic(auto, unfolding(crate::specs::TableReading::isr_at))]
 fn isr(
     alloc: Global,
@@ -166,12 +183,12 @@ fn isr(
 {
     let name = reader.name(alloc, earlier)?;
     let code = range(reader, header.blocks, tasks, earlier, &[])?;
-    let _priority = reader.unused_byte(header.version, 0)?;
+    let priority = isr_priority(reader, header.version)?;
     Ok(Isr {
         name,
         first: code.first,
         count: code.count,
-        priority: 0,
+        priority,
     })
 }
 
@@ -276,6 +293,24 @@ fn property(
     }
 }
 
+/// The ceiling of a resource for interrupts: in version 1 it is 0.
+#[tactic(auto, unfolding(crate::specs::Reading::further_16_at, crate::specs::Reading::tested_at))]
+fn interrupt_ceiling(reader: &mut Reader, version: Version) -> Result<u16, ReadError>
+    ensures { Gives (λ x. x) result reader.new (further_16_at version 0 is_interrupt_ceiling reader.old) }
+{
+    match version {
+        Version::One => Ok(0),
+        Version::Two => {
+            let left = reader.left();
+            let ceiling = reader.number_16()?;
+            if ceiling > GREATEST_INTERRUPT_CEILING {
+                return Err(fault(ImageRule::I3, left));
+            }
+            Ok(ceiling)
+        }
+    }
+}
+
 #[tactic(auto, unfolding(crate::specs::TableReading::resource_at))]
 fn resource(
     alloc: Global,
@@ -289,12 +324,12 @@ fn resource(
     let name = reader.name(alloc, earlier)?;
     let ceiling = at_most(reader, GREATEST_CEILING)?;
     let internal = property(reader, version, tasks, earlier.len())?;
-    let _interrupt_ceiling = reader.unused_16(version, 0)?;
+    let interrupt_ceiling = interrupt_ceiling(reader, version)?;
     Ok(Resource {
         name,
         ceiling,
         internal,
-        interrupt_ceiling: 0,
+        interrupt_ceiling,
     })
 }
 

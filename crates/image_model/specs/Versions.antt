@@ -16,8 +16,8 @@ abbrev pub SaysNothing : Option Site → Type 0
 SaysNothing None = ⊤
 SaysNothing (Some x) = IsUnknown x.known
 
--- what version 1 asks alone: distinct priorities, for it has no place for further activations, INTERNAL resources and
--- known statuses
+-- what version 1 asks alone: distinct priorities of tasks, for it has no place for further activations, INTERNAL resources,
+-- priorities and resources of ISRs, and known statuses
 pub record FitsVersion1Alone (app : App) (sites : List (Option Site)) : Type 0 where
   pub tables : FitsVersion1 (tables app)
   pub unknown : All SaysNothing sites

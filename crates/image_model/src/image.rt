@@ -8,7 +8,8 @@ use osek_values::Seq;
 /// The versions of the image format.
 #[derive(Clone, Copy, PartialEq, Eq, Debug)]
 pub enum Version {
-    /// It has no place for known statuses, further activations and INTERNAL resources, and wants distinct priorities.
+    /// It has no place for known statuses, further activations, INTERNAL resources, and priorities and resources of ISRs, and
+    /// wants distinct priorities of tasks.
     One,
     /// It has a place for each of these, and tasks may share a priority.
     Two,

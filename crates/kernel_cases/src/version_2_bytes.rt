@@ -182,7 +182,7 @@ const HOSTILE_2: [(&str, usize, u8, ImageRule, usize); 10] = [
         77,
     ),
     ("a property of number 2", 77, 2, ImageRule::I3, 77),
-    ("an interrupt ceiling", 79, 1, ImageRule::I3, 78),
+    ("an interrupt ceiling above 256", 78, 2, ImageRule::I3, 78),
     ("a form above General", 106, 4, ImageRule::I3, 106),
     ("a status of number 10", 108, 10, ImageRule::I3, 108),
     ("a status of number fe", 148, 0xfe, ImageRule::I3, 148),
@@ -256,4 +256,63 @@ fn a_call_on_an_internal_resource(rt: HostRuntime) {
     bytes[97] = 8;
     bytes[103] = 0;
     assert!(rt; is_fault(rt.alloc(), &bytes, ImageRule::I5, 103));
+}
+
+/// An ISR of priority 3, which takes a resource that keeps it out, and ends.
+const ONE_ISR_2: [u8; 53] = [
+    0x4f, 0x53, 0x45, 0x4b, 0x46, 0x49, 0x54, 0x02, 0x00, 0x00, 0x01, 0x00, 0x00, 0x01, 0x01, 0x00,
+    0x02, 0x01, 0x49, 0x00, 0x00, 0x00, 0x02, 0x03, 0x01, 0x52, 0x00, 0x00, 0x00, 0x01, 0x00, 0x00,
+    0x04, 0x01, 0x4d, 0x07, 0x00, 0x00, 0x00, 0x00, 0x01, 0x00, 0x00, 0x01, 0x17, 0x00, 0x00, 0x00,
+    0x00, 0x01, 0x01, 0x00, 0xff,
+];
+
+/// The same without the fields of version 2.
+const ONE_ISR: [u8; 48] = [
+    0x4f, 0x53, 0x45, 0x4b, 0x46, 0x49, 0x54, 0x01, 0x00, 0x00, 0x01, 0x00, 0x00, 0x01, 0x01, 0x00,
+    0x02, 0x01, 0x49, 0x00, 0x00, 0x00, 0x02, 0x01, 0x52, 0x00, 0x00, 0x00, 0x01, 0x01, 0x4d, 0x07,
+    0x00, 0x00, 0x00, 0x00, 0x01, 0x00, 0x00, 0x01, 0x17, 0x00, 0x00, 0x00, 0x00, 0x01, 0x01, 0x00,
+];
+
+/// The greatest priority and interrupt ceiling.
+fn of_the_greatest_level() -> [u8; 53] {
+    let mut bytes = ONE_ISR_2;
+    bytes[23] = 255;
+    bytes[31] = 1;
+    bytes[32] = 0;
+    bytes
+}
+
+fn has_levels(image: &Image, priority: u8, ceiling: u16) -> bool {
+    image.app.isrs.len() == 1
+        && image.app.isrs.at(0).priority == priority
+        && image.app.resources.len() == 1
+        && image.app.resources.at(0).interrupt_ceiling == ceiling
+}
+
+fn is_of_one_isr(image: &Image) -> bool {
+    has_levels(image, 3, 4)
+}
+
+fn is_of_the_greatest_level(image: &Image) -> bool {
+    has_levels(image, 255, 256)
+}
+
+#[test]
+fn an_isr_with_a_resource(rt: HostRuntime) {
+    let alloc = rt.alloc();
+    assert!(rt; reads(alloc, &ONE_ISR_2, is_of_one_isr));
+    assert!(rt; reads(alloc, &of_the_greatest_level(), is_of_the_greatest_level));
+}
+
+// Version 1 has no ISR that takes a resource.
+#[test]
+fn an_isr_with_a_resource_in_version_1(rt: HostRuntime) {
+    assert!(rt; is_fault(rt.alloc(), &ONE_ISR, ImageRule::I5, 31));
+}
+
+#[test]
+fn an_interrupt_ceiling_of_257(rt: HostRuntime) {
+    let mut bytes = of_the_greatest_level();
+    bytes[32] = 1;
+    assert!(rt; is_fault(rt.alloc(), &bytes, ImageRule::I3, 31));
 }

@@ -8,6 +8,8 @@ pub mod MeetLaws
 pub mod SiftLaws
 pub mod AloneLaws
 pub mod FlatLaws
+pub mod TaskSlots
+pub mod SourceSlots
 pub mod SlotLaws
 pub mod ColumnLaws
 pub mod UnmovedLaws

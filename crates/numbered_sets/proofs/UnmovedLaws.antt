@@ -1,32 +1,44 @@
--- Tests that pass alike wherever a task stands.
+-- Tests that pass alike wherever a task or a routine stands.
 use Rattle.std.proofs.{Common.{◌≡◌, ℕ, Bool, true, List, get_or, refl, sym, ap, ◌∙◌}, lemmas.List.{get_or_default}}
-use Rattle.osek_values.specs.declared.numbers.BlockNo.{BlockNo}
+use Rattle.osek_values.specs.declared.numbers.{BlockNo.{BlockNo}, ResNo.{ResNo}}
 use Rattle.osek_standard.specs.{TaskStates.{holds}, Services.{is_on_top}}
-use Rattle.abstract_state.specs.{declared.value.{LiveVal.{LiveVal}, Val.{Val, TheVariants.{Suspended, Live, Waiting}}, PartValue.{PartValue, TheVariants.{OfTask, OfEvent, OfAlarm}}}, Components.{live_val}}
-use Rattle.flow_model.specs.{declared.test.Test.{Test}, Tests.{passes, of_task, on_task, holds_none_of, holds_nothing}}
+use Rattle.abstract_state.specs.declared.value.{LiveVal.{LiveVal}, Val.{Val, TheVariants.{Suspended, Live, Waiting}}, PartValue.{PartValue, TheVariants.{OfTask, OfEvent, OfAlarm, OfSource}}}
+use Rattle.abstract_state.specs.declared.value.SourceVal.TheVariants as source_val
+use Rattle.abstract_state.specs.Components.{live_val}
+use Rattle.flow_model.specs.{declared.{test.Test.{Test}, change.Update.TheVariants.{Block}}, Tests.{passes, updated, of_task, of_stack, is_none_of, holds_nothing}}
 use Rattle.flow_model.specs.declared.test.Test.TheVariants as test
-use Rattle.flow_model.specs.Values.{is_suspended_value, held_of, further_of, has_room, is_full_value, at_block}
+use Rattle.flow_model.specs.Values.{is_suspended_value, further_of, has_room, is_full_value}
 use Rattle.std.specs.Prelude.{not, ◌==◌}
 use Rattle.numbered_sets.specs.{Passing.{reads_no_block, IsJudged}, Pools.{IsNumberOf}, declared.passing.Judged.{Judged}}
 
-by_load : (f : Val → Bool) (b : BlockNo) → ((x : LiveVal) → f (Live (live_val b x.further x.inside x.held)) ≡ f (Live x)) → (v : PartValue) → of_task f (on_task (at_block b) v) ≡ of_task f v
+by_load : (f : Val → Bool) (b : BlockNo) → ((x : LiveVal) → f (Live (live_val b x.further x.inside x.held)) ≡ f (Live x)) → (v : PartValue) → of_task f (updated (Block b) v) ≡ of_task f v
 by_load f b h (OfTask Suspended) = refl
 by_load f b h (OfTask (Live x)) = h x
 by_load f b h (OfTask (Waiting c)) = refl
 by_load f b h (OfEvent e) = refl
 by_load f b h (OfAlarm e) = refl
+by_load f b h (OfSource x) = refl
 
-unmoved : (t : Test) (b : BlockNo) (v : PartValue) → reads_no_block t ≡ true → passes t (on_task (at_block b) v) ≡ passes t v
+by_stack : (f : List ResNo → Bool) (b : BlockNo) (v : PartValue) → of_stack f (updated (Block b) v) ≡ of_stack f v
+by_stack f b (OfTask Suspended) = refl
+by_stack f b (OfTask (Live x)) = refl
+by_stack f b (OfTask (Waiting c)) = refl
+by_stack f b (OfEvent e) = refl
+by_stack f b (OfAlarm e) = refl
+by_stack f b (OfSource source_val.Out) = refl
+by_stack f b (OfSource (source_val.In x)) = refl
+
+unmoved : (t : Test) (b : BlockNo) (v : PartValue) → reads_no_block t ≡ true → passes t (updated (Block b) v) ≡ passes t v
 unmoved (test.Is w) b v e = absurd (cc)
 unmoved (test.IsNot w) b v e = absurd (cc)
 unmoved test.Suspended b v e = by_load is_suspended_value b (λ x. refl) v
 unmoved test.NotSuspended b v e = by_load (λ x. not (is_suspended_value x)) b (λ x. refl) v
-unmoved (test.Holds r) b v e = by_load (λ x. holds (held_of x) r.0) b (λ x. refl) v
-unmoved (test.HoldsNoneOf m) b v e = by_load (holds_none_of m.0) b (λ x. refl) v
+unmoved (test.Holds r) b v e = by_stack (λ h. holds h r.0) b v
+unmoved (test.HoldsNoneOf m) b v e = by_stack (is_none_of m.0) b v
 unmoved test.HoldsSome b v e = by_load (λ x. not (holds_nothing x)) b (λ x. refl) v
 unmoved test.HoldsNothing b v e = by_load holds_nothing b (λ x. refl) v
-unmoved (test.OnTop r) b v e = by_load (λ x. is_on_top r.0 (held_of x)) b (λ x. refl) v
-unmoved (test.NotOnTop r) b v e = by_load (λ x. not (is_on_top r.0 (held_of x))) b (λ x. refl) v
+unmoved (test.OnTop r) b v e = by_stack (is_on_top r.0) b v
+unmoved (test.NotOnTop r) b v e = by_stack (λ h. not (is_on_top r.0 h)) b v
 unmoved (test.Full n) b v e = by_load (is_full_value n) b (λ x. refl) v
 unmoved (test.Room n) b v e = by_load (has_room n) b (λ x. refl) v
 unmoved test.NoFurther b v e = by_load (λ x. further_of x == 0) b (λ x. refl) v
@@ -34,7 +46,7 @@ unmoved test.SomeFurther b v e = by_load (λ x. not (further_of x == 0)) b (λ x
 
 -- a value that was judged tells it of one at another block
 pub judged_beside : (vs : List PartValue) (t : Test) (j : Judged) (n : ℕ) (w : PartValue) → IsJudged vs t j → reads_no_block t ≡ true
-    → ((v : PartValue) → IsNumberOf vs v j.number → (b : BlockNo) × IsNumberOf vs (on_task (at_block b) v) n) → IsNumberOf vs w n → j.passes ≡ passes t w
+    → ((v : PartValue) → IsNumberOf vs v j.number → (b : BlockNo) × IsNumberOf vs (updated (Block b) v) n) → IsNumberOf vs w n → j.passes ≡ passes t w
 judged_beside vs t j n w h reads beside number =
     let v = get_or vs j.number w in
     let its : IsNumberOf vs v j.number = record { known = h.known; is = λ d. get_or_default vs j.number d w h.known } in

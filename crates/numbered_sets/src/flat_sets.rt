@@ -8,12 +8,14 @@ use bit_words::{further, split_words, words};
 use osek_values::{Memory, Seq};
 use std::alloc::Global;
 use std::marker::Model;
+use std::rc::Rc;
 
 /// A set of numbers of values of a domain for each of some components. The first 128 numbers of each stand in two arrays, with
 /// a word for each component: most tasks have no more values, and events and alarms have two. Further words are few.
 #[derive(Drop)]
 pub struct NumberedSets {
-    pub(crate) domains: Vec<Domain>,
+    // copies share them
+    pub(crate) domains: Rc<Vec<Domain>>,
     pub(crate) low: Vec<u64>,
     pub(crate) high: Vec<u64>,
     // empty as long as no number is past the first 128
@@ -26,9 +28,9 @@ impl Model for NumberedSets {
 
     ghost Value = { List Numbers };
 
-    ghost view = { λ s. flat_sets s.domains.items s.low.items s.high.items s.more };
+    ghost view = { λ s. flat_sets s.domains.value.items s.low.items s.high.items s.more };
 
-    ghost invariant = { λ s. (length s.low.items ≡ length s.domains.items) × (length s.high.items ≡ length s.domains.items) × (length s.more ≤ length s.domains.items) };
+    ghost invariant = { λ s. (length s.low.items ≡ length s.domains.value.items) × (length s.high.items ≡ length s.domains.value.items) × (length s.more ≤ length s.domains.value.items) };
 }
 
 impl NumberedSets {
@@ -43,8 +45,9 @@ impl NumberedSets {
         let low = words::clear_words(alloc, domains.len())?;
         let high = words::clear_words(alloc, domains.len())?;
         let copy = Vec::from_slice(alloc, domains)?;
+        let domains = Rc::new(alloc, copy)?;
         Ok(NumberedSets {
-            domains: copy,
+            domains,
             low,
             high,
             more: Seq::new(alloc),
@@ -137,7 +140,7 @@ impl NumberedSets {
         if words::have_bits(self.low.as_slice(), self.high.as_slice()) {
             return true;
         }
-        for component in 0..self.domains.len() {
+        for component in 0..self.len() {
             if self.is_empty(component) {
                 return false;
             }
@@ -257,7 +260,7 @@ impl NumberedSets {
     {
         let more = words::copied(alloc, further::of(&self.more, component))?;
         Ok(NumberedSet {
-            domain: domain_at(self.domains.as_slice(), component),
+            domain: self.domain(component),
             low: words::word_at(self.low.as_slice(), component),
             high: words::word_at(self.high.as_slice(), component),
             more,
@@ -302,7 +305,7 @@ impl NumberedSets {
     pub fn copy(&self, alloc: Global) -> Result<NumberedSets, Memory>
         ensures { IfOk result (λ sets. sets ≡ self.now) }
     {
-        let domains = Vec::from_slice(alloc, self.domains.as_slice())?;
+        let domains = self.domains.clone()?;
         let low = words::copied(alloc, self.low.as_slice())?;
         let high = words::copied(alloc, self.high.as_slice())?;
         let more = further::copied(alloc, &self.more)?;

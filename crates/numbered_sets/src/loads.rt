@@ -1,14 +1,14 @@
-//! What a task was seen to have beside its block, by number.
+//! What a task or a routine was seen to have beside its block, by number.
 ghost use Rattle.std.specs.Prelude.{◌≡◌};
 
-use abstract_state::LiveVal;
+use abstract_state::{LiveVal, RoutineVal};
 use indexmap::IndexSet;
 use osek_values::{BlockNo, Held, Memory};
 use std::alloc::{AllocError, Global};
 use std::hash::{Hash, Hasher};
 use std::marker::Model;
 
-/// What a Live task has beside its block.
+/// What a Live task has beside its block; of a routine it is a stack alone.
 #[derive(Drop)]
 pub struct Load {
     pub further: u8,
@@ -18,7 +18,7 @@ pub struct Load {
 
 impl Load {
     ghost use Rattle.std.specs.Prelude.{◌≡◌};
-    ghost use Rattle.numbered_sets.specs.Slots.{load_of, carrying};
+    ghost use Rattle.numbered_sets.specs.Slots.{load_of, routine_load, carrying};
 
     /// That of a Live task.
     pub fn of(live: &LiveVal) -> Load
@@ -28,6 +28,17 @@ impl Load {
             further: live.further,
             inside: live.inside,
             held: live.held.copy(),
+        }
+    }
+
+    /// That of a routine.
+    pub fn of_routine(routine: &RoutineVal) -> Load
+        ensures { result ≡ routine_load routine.now }
+    {
+        Load {
+            further: 0,
+            inside: false,
+            held: routine.held.copy(),
         }
     }
 

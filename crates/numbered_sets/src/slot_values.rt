@@ -2,11 +2,11 @@
 ghost use Rattle.std.specs.Prelude.{ℕ, List, ◌≡◌, ◌≢◌, ◌<◌, ◌≤◌, ◌^◌, IfOk, IfSome, IfNone};
 ghost use Rattle.osek_standard.specs.Validity.{IsAmong};
 ghost use Rattle.flow_model.specs.{declared.change.Update.TheVariants.{Block}, Tests.{updated}};
-ghost use Rattle.abstract_state.specs.declared.value.Val.TheVariants.{Live};
-ghost use Rattle.numbered_sets.specs.Slots.{val_in, value_in, IsTaskSlot, IsSlot, IsSlotOf, IsTaskSlotOf, IsSlotInRow, AreMoreLoads, slot_width, IsBlockColumn, IsSlotPlace};
+ghost use Rattle.abstract_state.specs.declared.value.{Val.TheVariants.{Live}, SourceVal.TheVariants.{In}};
+ghost use Rattle.numbered_sets.specs.Slots.{val_in, value_in, source_in, blocks_of, IsTaskSlot, IsSourceSlot, IsSlot, IsSlotOf, IsTaskSlotOf, IsSourceSlotOf, IsSlotInRow, AreMoreLoads, slot_width, IsBlockColumn, IsSlotPlace};
 
 use crate::loads::{Load, Loads};
-use abstract_state::{Domain, LiveVal, PartValue, Val};
+use abstract_state::{Domain, LiveVal, PartValue, RoutineVal, SourceVal, Val};
 use osek_values::{BlockNo, Memory};
 
 /// Where the slots of a block stand: that of a waiting task in this column and row.
@@ -17,7 +17,7 @@ pub struct BlockColumn {
     pub row: u32,
 }
 
-/// The row of a slot, and its block by the number of those of the task's before it.
+/// The row of a slot, and its block by the number of those of its task or its routine before it.
 #[derive(Clone, Copy)]
 pub struct SlotPlace {
     pub row: u32,
@@ -35,6 +35,9 @@ pub fn value_at(domain: Domain, loads: &Loads, slot: usize) -> PartValue
         }
         Domain::Event => PartValue::OfEvent(slot == 1),
         Domain::Alarm => PartValue::OfAlarm(slot == 1),
+        Domain::Source { first, count, .. } => {
+            PartValue::OfSource(source_at(first, count, loads, slot))
+        }
     }
 }
 
@@ -56,6 +59,23 @@ fn val_at(first: BlockNo, count: u16, loads: &Loads, slot: usize) -> Val
     Val::Live(load.at(block))
 }
 
+// what a source whose routine has these blocks is in a slot: what stands where a task would wait is none
+fn source_at(first: BlockNo, count: u16, loads: &Loads, slot: usize) -> SourceVal
+    requires { IsSourceSlot first.0 count loads.now slot }
+    ensures { result ≡ source_in first.0 count loads.now slot }
+{
+    if slot == 0 {
+        return SourceVal::Out;
+    }
+    let place = slot - 1;
+    let block = BlockNo((first.0 as usize + place % count as usize) as u16);
+    let load = loads.at(place / count as usize - 1);
+    SourceVal::In(RoutineVal {
+        block,
+        held: load.held.copy(),
+    })
+}
+
 /// The slot of a value, if its load was seen and it is one of the domain's.
 pub fn slot_of(domain: Domain, loads: &Loads, value: &PartValue) -> Option<usize>
     ensures slot { IfSome result (IsSlotOf domain loads.now value.now) }
@@ -67,6 +87,9 @@ pub fn slot_of(domain: Domain, loads: &Loads, value: &PartValue) -> Option<usize
         }
         (Domain::Event, PartValue::OfEvent(flag)) => Some(*flag as usize),
         (Domain::Alarm, PartValue::OfAlarm(flag)) => Some(*flag as usize),
+        (Domain::Source { first, count, .. }, PartValue::OfSource(val)) => {
+            slot_of_source(first, count, loads, val)
+        }
         _ => None,
     }
 }
@@ -93,7 +116,23 @@ fn slot_of_live(first: BlockNo, count: u16, loads: &Loads, live: &LiveVal) -> Op
     }
 }
 
-// the slot in a row, where the block is one of the task's
+fn slot_of_source(first: BlockNo, count: u16, loads: &Loads, val: &SourceVal) -> Option<usize>
+    ensures slot { IfSome result (IsSourceSlotOf first.0 count loads.now val.now) }
+    ensures none { IfNone result ((s : ℕ) → IsSourceSlot first.0 count loads.now s → source_in first.0 count loads.now s ≢ val.now) }
+{
+    match val {
+        SourceVal::Out => Some(0),
+        SourceVal::In(routine) => {
+            let carried = Load::of_routine(routine);
+            match loads.find(&carried) {
+                None => None,
+                Some(load) => slot_in_row(first, count, load + 1, routine.block),
+            }
+        }
+    }
+}
+
+// the slot in a row, where the block is one of the task's or the routine's
 fn slot_in_row(first: BlockNo, count: u16, row: usize, block: BlockNo) -> Option<usize>
     requires { row ≤ 2 ^ 32 }
     ensures small { block.0 < 2 ^ 16 }
@@ -107,15 +146,24 @@ fn slot_in_row(first: BlockNo, count: u16, row: usize, block: BlockNo) -> Option
     Some(1 + row * count as usize + offset)
 }
 
-/// The slot of what a Live task's value becomes at a block, if it is one of the task's.
+// the blocks of a task or of a routine: the first, and how many
+fn blocks(domain: Domain) -> Option<(BlockNo, u16)>
+    ensures { result ≡ blocks_of domain }
+{
+    match domain {
+        Domain::Task { first, count, .. } => Some((first, count)),
+        Domain::Source { first, count, .. } => Some((first, count)),
+        Domain::Event | Domain::Alarm => None,
+    }
+}
+
+/// The slot of what a Live task's or a routine's value becomes at a block, if it is one of its.
 pub fn slot_at_block(domain: Domain, loads: &Loads, slot: usize, block: BlockNo) -> Option<usize>
     requires known { IsSlot domain loads.now slot }
     requires small { slot < 2 ^ 32 }
     ensures { IfSome result (IsSlotOf domain loads.now (updated (Block block) (value_in domain loads.now slot))) }
 {
-    let Domain::Task { first, count, .. } = domain else {
-        return None;
-    };
+    let (first, count) = blocks(domain)?;
     if slot == 0 || count == 0 {
         return None;
     }
@@ -127,25 +175,23 @@ pub fn slot_at_block(domain: Domain, loads: &Loads, slot: usize, block: BlockNo)
     slot_in_row(first, count, row, block)
 }
 
-/// How many slots of a domain stand side by side: one for each block of a task.
+/// How many slots of a domain stand side by side: one for each block of a task or of a routine.
 pub fn slot_width(domain: Domain) -> u32
     ensures is { result ≡ slot_width domain }
     ensures wide { 0 < result }
 {
-    match domain {
-        Domain::Task { count, .. } if count > 0 => count as u32,
-        _ => 1,
+    match blocks(domain) {
+        Some((_, count)) => if count == 0 { 1 } else { count as u32 },
+        None => 1,
     }
 }
 
-/// Where the slots of a block stand, if it is one of the task's.
+/// Where the slots of a block stand, if it is one of the task's or of the routine's.
 pub fn block_column(domain: Domain, block: BlockNo) -> Option<BlockColumn>
     ensures column { IfSome result (IsBlockColumn domain) }
     ensures block { IfSome result (λ c. c.block ≡ block) }
 {
-    let Domain::Task { first, count, .. } = domain else {
-        return None;
-    };
+    let (first, count) = blocks(domain)?;
     let slot = slot_in_row(first, count, 0, block)?;
     let width = count as usize;
     // the slot of the last block is the first one of the next row
@@ -163,14 +209,12 @@ pub fn block_column(domain: Domain, block: BlockNo) -> Option<BlockColumn>
     })
 }
 
-/// The row and the block of a task's slot, unless it is suspended there.
+/// The row and the block of a task's or a source's slot, unless it is suspended or Out there.
 pub fn slot_place(domain: Domain, slot: usize) -> Option<SlotPlace>
     requires { slot < 2 ^ 32 }
     ensures { IfSome result (IsSlotPlace domain slot) }
 {
-    let Domain::Task { count, .. } = domain else {
-        return None;
-    };
+    let (_, count) = blocks(domain)?;
     if slot == 0 || count == 0 {
         return None;
     }
@@ -187,8 +231,8 @@ pub fn slot_place(domain: Domain, slot: usize) -> Option<SlotPlace>
 pub fn block_in(domain: Domain, slot: usize) -> BlockNo
     ensures { result.0 < 2 ^ 16 }
 {
-    match domain {
-        Domain::Task { first, count, .. } if slot > 0 && count > 0 => {
+    match blocks(domain) {
+        Some((first, count)) if slot > 0 && count > 0 => {
             let block = first.0 as usize + (slot - 1) % count as usize;
             BlockNo((block % 65536) as u16)
         }
@@ -204,6 +248,9 @@ pub fn slot_for(domain: Domain, loads: &mut Loads, value: &PartValue) -> Result<
     match (domain, value) {
         (Domain::Task { first, count, .. }, PartValue::OfTask(Val::Live(live))) => {
             slot_for_live(first, count, loads, live)
+        }
+        (Domain::Source { first, count, .. }, PartValue::OfSource(SourceVal::In(routine))) => {
+            slot_for_routine(first, count, loads, routine)
         }
         _ => match slot_of(domain, loads, value) {
             None => Err(Memory),
@@ -224,6 +271,23 @@ fn slot_for_live(
     let carried = Load::of(live);
     let load = loads.number(&carried)?;
     match slot_in_row(first, count, load + 1, live.block) {
+        None => Err(Memory),
+        Some(slot) => Ok(slot),
+    }
+}
+
+fn slot_for_routine(
+    first: BlockNo,
+    count: u16,
+    loads: &mut Loads,
+    routine: &RoutineVal,
+) -> Result<usize, Memory>
+    ensures loads { AreMoreLoads loads.old loads.new }
+    ensures slot { IfOk result (IsSourceSlotOf first.0 count loads.new (In routine.now)) }
+{
+    let carried = Load::of_routine(routine);
+    let load = loads.number(&carried)?;
+    match slot_in_row(first, count, load + 1, routine.block) {
         None => Err(Memory),
         Some(slot) => Ok(slot),
     }

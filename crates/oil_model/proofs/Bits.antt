@@ -5,7 +5,7 @@ use Rattle.std.proofs.{Math.Pow.{pow-lt, pow-sub-lt}, lemmas.Nat.{or_lt, le_or_l
 use Rattle.osek_values.specs.Hooks.{when, startup, shutdown, error, pre_task, post_task}
 use Rattle.oil_tree.specs.declared.tree.{Attr.{Attr}, Object.{Object}}
 use Rattle.oil_model.specs.{LookUp.{is_named, has, word_of, inner}, Objects.{priority, is_started, start, alarm_time, cycle_time}}
-use Rattle.oil_model.specs.Systems.{hook, hooks, number_from, number_in, mode_bits, start_bits, autostart, above_all}
+use Rattle.oil_model.specs.Systems.{hook, hooks, number_from, number_in, mode_bits, start_bits, autostart, above_all, above_isrs}
 use Rattle.oil_model.proofs.Facts.{true_or_false}
 
 small_hook : (b : Bool) (h : ℕ) → h < 2 ^ 5 → when b h < 2 ^ 5
@@ -98,3 +98,7 @@ no_start modes attrs some e =
 pub ceiling_small : (tasks : List Object) → AllByRecursion (λ (o : Object). priority o ≤ 65535) tasks → above_all tasks ≤ 131071
 ceiling_small [] h = omega arith
 ceiling_small (o ∷ tasks) h = let le = h.0 in let rest = ceiling_small tasks h.1 in omega (arith, le, rest)
+
+pub interrupt_ceiling_small : (isrs : List Object) → AllByRecursion (λ (o : Object). priority o ≤ 255) isrs → above_isrs isrs ≤ 256
+interrupt_ceiling_small [] h = omega arith
+interrupt_ceiling_small (o ∷ isrs) h = let le = h.0 in let rest = interrupt_ceiling_small isrs h.1 in omega (arith, le, rest)

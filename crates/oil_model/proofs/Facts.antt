@@ -1,14 +1,14 @@
 -- What holds of the objects where the rules are kept.
 use Rattle.std.proofs.Common.{◌≡◌, ℕ, ◌≤◌, ◌⊎◌, inl, inr, ⊎_elim, List, [], ◌∷◌, ◌++◌, map, Bool, true, false, refl, sym, ap, ◌∙◌, subst, arith}
 use Rattle.std.specs.{Prelude.{Option, Some, filter, cond, not, ◌&&◌, nat_le, nat_lt, codes, find}, List.{flat_map, AllByRecursion}, Str.{bytes_eq}}
-use Rattle.std.proofs.lemmas.{Bool.Decides.{nat_tests}, Slice.Eq.{bytes_eq-Decides}}
+use Rattle.std.proofs.lemmas.{Bool.{and_parts}, Bool.Decides.{nat_tests}, Slice.Eq.{bytes_eq-Decides}}
 use Rattle.oil_tree.specs.AttrLists.{attr_list}
 use Rattle.oil_tree.specs.declared.tree.{Attr.{Attr}, Object.{Object}, Value.{Value, TheVariants.{Word, Quoted, Numeric}}, Sign.TheVariants.{Bare, Plus, Minus}}
-use Rattle.oil_model.specs.declared.table.{Scope.{Scope}, Presence.{Presence, TheVariants.{Required}}, Entry.{Entry}}
+use Rattle.oil_model.specs.declared.table.{Scope.{Scope}, Presence.{Presence, TheVariants.{Required, Optional}}, Entry.{Entry}}
 use Rattle.oil_model.specs.declared.table.Scope.TheVariants as scope
-use Rattle.oil_model.specs.{declared.domain.Domain.TheVariants.{Number}, Table.{scope_of, entry_of}, Lists.{found_at, found_of, found_in, found_below}}
+use Rattle.oil_model.specs.{declared.{domain.Domain.TheVariants.{Number}, objects.Category.TheVariants.{Two}}, Table.{scope_of, entry_of}, Lists.{found_at, found_of, found_in, found_below}}
 use Rattle.oil_model.specs.LookUp.{has, number, number_at, number_or, first_named, attr_line}
-use Rattle.oil_model.specs.Objects.{is_kind, objects_of, is_called, attrs_of, attrs_named, priority, activation, maximum, minimum, alarm_time, cycle_time, start, line_at}
+use Rattle.oil_model.specs.Objects.{is_kind, is_isr, objects_of, is_called, attrs_of, attrs_named, priority, activation, maximum, minimum, alarm_time, cycle_time, start, line_at}
 use Rattle.oil_model.specs.Rules.{forbids, is_wrong, wrong_in, is_activation, is_wrongly_activated, wrong_activations, is_reversed, is_off_cycle, late_times_of, late_times, counter_of}
 use Rattle.oil_model.proofs.Clean.{left_empty, right_empty, map_empty, mark_empty, none_pass, each_empty, all_filtered, all_weaker}
 
@@ -68,6 +68,18 @@ priorities objects e =
     let none_below : 0 ≤ 0 = omega arith in
     let few : 0 ≤ 65535 = omega arith in
     all_weaker (λ (o : Object). priority o ≤ 65535) (λ (o : Object). NoneWrong scope.Task (attr_list o.attrs)) (objects_of (codes "TASK") objects) (λ o h. (number_in_range scope.Task (codes "PRIORITY") 0 65535 0 Required (attr_list o.attrs) refl none_below few h).1) (none_wrong_of (codes "TASK") scope.Task objects refl e)
+
+-- of the category 2 ISRs
+pub isr_priorities : (objects : List Object) → found_in wrong_in objects ≡ [] → AllByRecursion (λ (o : Object). priority o ≤ 255) (filter (is_isr Two) objects)
+isr_priorities objects e =
+    let none_below : 0 ≤ 0 = omega arith in
+    let few : 0 ≤ 255 = omega arith in
+    all_filtered (λ (o : Object). priority o ≤ 255) (λ (o : Object). found_of wrong_in o ≡ []) (is_isr Two) objects
+    (λ o t h.
+    let kind = (and_parts (is_kind (codes "ISR") o) _ t).0 in
+    let own = none_wrong scope.Isr o.line (attr_list o.attrs) (own_found wrong_in scope.Isr o (kind_scope (codes "ISR") o kind) h).0 in
+    (number_in_range scope.Isr (codes "PRIORITY") 0 255 0 Optional (attr_list o.attrs) refl none_below few own).1)
+    (each_empty (found_of wrong_in) objects e)
 
 -- how often a task is activated
 pub activated : (objects : List Object) → wrong_activations objects ≡ [] → AllByRecursion (λ (o : Object). is_activation (has (codes "EVENT") (attr_list o.attrs)) (activation o) ≡ true) (objects_of (codes "TASK") objects)

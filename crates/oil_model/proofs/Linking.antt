@@ -4,7 +4,7 @@ use Rattle.std.specs.Prelude.{Option, Some, None, if◌then◌else◌, cond, not
 use Rattle.std.specs.{List.{AllByRecursion, IsDistinct, list_any}, Str.{bytes_eq}}
 use Rattle.std.proofs.lemmas.{Bool.Decides.{nat_tests}, Cmp.{nat_list_eq_equiv}, Map.Keys.{IsDistinct-push, IsDistinct-cons, IsDistinct-head, IsDistinct-tail}}
 use Rattle.osek_values.specs.{Names.{is_name, AreNames}, Numbers.{res_no}, declared.{numbers.ResNo.{ResNo}, refusal.OilRule.TheVariants.{O2, O4, O6, O7, O9, O11, O12, O13, O14}}}
-use Rattle.oil_system.specs.declared.{objects.{Alarm.{Alarm}, Resource.{Resource}}, system.{TaskObject.{TaskObject}, CounterObject.{CounterObject}, EventObject.{EventObject}}}
+use Rattle.oil_system.specs.declared.{objects.{Alarm.{Alarm}, Resource.{Resource}}, system.{TaskObject.{TaskObject}, IsrObject.{IsrObject}, CounterObject.{CounterObject}, EventObject.{EventObject}}}
 use Rattle.oil_model.specs.{declared.objects.Category.TheVariants.{One, Two}, Linkable.{no_counter_object, no_resource_object, is_cycle_of_object, IsActionAmong, IsAlarmAmong, IsInternalAmong, IsLinkable}}
 use Rattle.oil_tree.specs.{AttrLists.{attr_list}, declared.tree.{Attr.{Attr}, Object.{Object}, Tree.{Tree}}}
 use Rattle.oil_model.specs.declared.table.Scope.TheVariants as scope
@@ -12,11 +12,11 @@ use Rattle.oil_model.specs.{Table.{scope_of}, Lists.{found_of, found_in}, LookUp
 use Rattle.oil_model.specs.Objects.{is_kind, is_called, objects_of, name_of, attrs_of, has_scheduler, is_other_mode, is_ordinary, is_isr, priority, activation, maximum, minimum, alarm_time, cycle_time, start, explicit_bits, mask_of, used_after, line_at, object_line}
 use Rattle.oil_model.specs.Rules.{kinds, repeated, repeated_names, all_repeated_names, has_same_name, is_activation, wrong_activations, missing_in, wrong_in, dangling_in, is_callback, callbacks, empty_masks_from, empty_masks, beyond_limits, late_times, is_off_cycle, counter_of}
 use Rattle.oil_model.specs.Faults.{HasNoFault}
-use Rattle.oil_model.specs.Systems.{modes, events_from, events, mask_named, own_bits, internal_from, internal_by, first_of, internal, task, counter, alarm, action_in, names_of, resource, scheduler, ceiling, names_resource, resources, system_of}
+use Rattle.oil_model.specs.Systems.{modes, events_from, events, mask_named, own_bits, internal_from, internal_by, first_of, internal, task, isr, counter, alarm, action_in, names_of, resource, scheduler, ceiling, ceiling_beside, top_ceiling, interrupt_ceiling, names_resource, resources, system_of}
 use Rattle.oil_model.proofs.Clean.{no_line, left_empty, right_empty, map_empty, mark_empty, none_pass, each_empty, all_filtered, all_weaker, all_both, true_not_false}
-use Rattle.oil_model.proofs.{Distinct.{distinct_from, distinct_kept, all_kept}, Facts.{true_or_false, own_found, kind_scope, priorities, activated, in_activations, once, IsMaximum, maxima, minima, IsInTime, times}}
-use Rattle.oil_model.proofs.{WithinLimits.{IsWithinLimits, within_limits, few_modes, few_resources, length-map, length-names}, Referring.{RefersToDeclared, IsSoundAlarm, sound_list, sound_alarm}}
-use Rattle.oil_model.proofs.{Bits.{known_hooks, autostart_below, no_start, ceiling_small}, Numbers.{IsAt, at_number, not_zero, mask_some}}
+use Rattle.oil_model.proofs.{Distinct.{distinct_from, distinct_kept, all_kept}, Facts.{true_or_false, own_found, kind_scope, priorities, isr_priorities, activated, in_activations, once, IsMaximum, maxima, minima, IsInTime, times}}
+use Rattle.oil_model.proofs.{WithinLimits.{IsWithinLimits, within_limits, few_modes, few_resources, length-map}, Referring.{RefersToDeclared, IsSoundAlarm, sound_list, sound_alarm}}
+use Rattle.oil_model.proofs.{Bits.{known_hooks, autostart_below, no_start, ceiling_small, interrupt_ceiling_small}, Numbers.{IsAt, at_number, not_zero, mask_some}}
 
 none_distinct : {K : Type 0} (eq : K → K → Bool) → IsDistinct eq []
 unfolding IsDistinct
@@ -34,6 +34,10 @@ all P xs h = λ k d lt. by_index P xs k d h lt
 all_map : {X Y : Type 0} (P : Y → Type 0) (f : X → Y) (xs : List X) → AllByRecursion (λ (x : X). P (f x)) xs → AllByRecursion P (map f xs)
 all_map P f [] h = tt
 all_map P f (x ∷ xs) h = (h.0, all_map P f xs h.1)
+
+unmapped : {X Y : Type 0} (f : X → Y) (P : Y → Type 0) (xs : List X) → AllByRecursion P (map f xs) → AllByRecursion (λ (x : X). P (f x)) xs
+unmapped f P [] h = tt
+unmapped f P (x ∷ xs) h = (h.0, unmapped f P xs h.1)
 
 by_recursion : {X : Type 0} (P : X → Type 0) (xs : List X) → All P xs → AllByRecursion P xs
 by_recursion P [] h = tt
@@ -121,15 +125,15 @@ none-any : (n : List ℕ) (names : List (List ℕ)) → AllByRecursion (λ (m : 
 none-any n [] h = refl
 none-any n (m ∷ names) h = λ i. h.0 i || none-any n names h.1 i
 
-with_scheduler : (exists : Bool) (tasks others : List Object) → AllByRecursion IsNamed others → IsDistinct bytes_eq (map name_of others) → (exists ≡ true → list_any (bytes_eq (codes "RES_SCHEDULER")) (map name_of others) ≡ false) → AreNames (map resource_name (map (resource tasks) others ++ (if exists then scheduler tasks ∷ [] else [])))
-with_scheduler true tasks others named distinct apart =
-    let names : map resource_name (map (resource tasks) others ++ scheduler tasks ∷ []) ≡ map name_of others ++ codes "RES_SCHEDULER" ∷ [] = map-push (map (resource tasks) others) (scheduler tasks) ∙ (λ i. map-map resource_name (resource tasks) others i ++ codes "RES_SCHEDULER" ∷ []) in
+with_scheduler : (exists : Bool) (tasks isrs others : List Object) → AllByRecursion IsNamed others → IsDistinct bytes_eq (map name_of others) → (exists ≡ true → list_any (bytes_eq (codes "RES_SCHEDULER")) (map name_of others) ≡ false) → AreNames (map resource_name (map (resource tasks isrs) others ++ (if exists then scheduler tasks ∷ [] else [])))
+with_scheduler true tasks isrs others named distinct apart =
+    let names : map resource_name (map (resource tasks isrs) others ++ scheduler tasks ∷ []) ≡ map name_of others ++ codes "RES_SCHEDULER" ∷ [] = map-push (map (resource tasks isrs) others) (scheduler tasks) ∙ (λ i. map-map resource_name (resource tasks isrs) others i ++ codes "RES_SCHEDULER" ∷ []) in
     subst AreNames (sym names) (record {
       each = all (λ (n : List ℕ). IsTrue (is_name n)) (map name_of others ++ codes "RES_SCHEDULER" ∷ []) (all-push (λ (n : List ℕ). IsTrue (is_name n)) (map name_of others) (codes "RES_SCHEDULER") (all_map (λ (n : List ℕ). IsTrue (is_name n)) name_of others named) (search rules));
       distinct = IsDistinct-push nat_list_eq_equiv (map name_of others) (codes "RES_SCHEDULER") distinct (apart refl);
     })
-with_scheduler false tasks others named distinct apart =
-    let names : map resource_name (map (resource tasks) others ++ []) ≡ map name_of others = ap (map resource_name) (append-none (map (resource tasks) others)) ∙ map-map resource_name (resource tasks) others in
+with_scheduler false tasks isrs others named distinct apart =
+    let names : map resource_name (map (resource tasks isrs) others ++ []) ≡ map name_of others = ap (map resource_name) (append-none (map (resource tasks isrs) others)) ∙ map-map resource_name (resource tasks isrs) others in
     subst AreNames (sym names) (are_names others named distinct)
 
 all-append : {X : Type 0} (P : X → Type 0) (xs ys : List X) → AllByRecursion P xs → AllByRecursion P ys → AllByRecursion P (xs ++ ys)
@@ -140,29 +144,36 @@ scheduler_small : (exists : Bool) (tasks : List Object) → AllByRecursion (λ (
 scheduler_small true tasks h = (let le = ceiling_small tasks h in omega (arith, le), tt)
 scheduler_small false tasks h = tt
 
-ceilings_small : (exists : Bool) (tasks others : List Object) → AllByRecursion (λ (o : Object). priority o ≤ 65535) tasks → AllByRecursion (λ (r : Resource). r.ceiling ≤ 131071) (map (resource tasks) others ++ (if exists then scheduler tasks ∷ [] else []))
-ceilings_small exists tasks others h =
-    all-append (λ (r : Resource). r.ceiling ≤ 131071) (map (resource tasks) others) (if exists then scheduler tasks ∷ [] else [])
-    (all_map (λ (r : Resource). r.ceiling ≤ 131071) (resource tasks) others (each others))
+kept_small : (n : List ℕ) (tasks : List Object) → AllByRecursion (λ (o : Object). priority o ≤ 65535) tasks → ceiling n tasks ≤ 131071
+kept_small n tasks h = ceiling_small (filter (names_resource n) tasks) (all_filtered (λ (o : Object). priority o ≤ 65535) (λ (o : Object). priority o ≤ 65535) (names_resource n) tasks (λ o t le. le) h)
+
+beside_small : (none : Bool) (n : List ℕ) (tasks : List Object) → AllByRecursion (λ (o : Object). priority o ≤ 65535) tasks → (if none then ceiling n tasks else top_ceiling tasks) ≤ 131071
+beside_small true n tasks h = kept_small n tasks h
+beside_small false n tasks h = let le = ceiling_small tasks h in omega (arith, le)
+
+ceilings_small : (exists : Bool) (tasks isrs others : List Object) → AllByRecursion (λ (o : Object). priority o ≤ 65535) tasks → AllByRecursion (λ (r : Resource). r.ceiling ≤ 131071) (map (resource tasks isrs) others ++ (if exists then scheduler tasks ∷ [] else []))
+ceilings_small exists tasks isrs others h =
+    all-append (λ (r : Resource). r.ceiling ≤ 131071) (map (resource tasks isrs) others) (if exists then scheduler tasks ∷ [] else [])
+    (all_map (λ (r : Resource). r.ceiling ≤ 131071) (resource tasks isrs) others (each others))
     (scheduler_small exists tasks h)
   where
-    each : (xs : List Object) → AllByRecursion (λ (o : Object). ceiling o.name tasks ≤ 131071) xs
+    each : (xs : List Object) → AllByRecursion (λ (o : Object). ceiling_beside (interrupt_ceiling o.name isrs) o.name tasks ≤ 131071) xs
     each [] = tt
-    each (x ∷ xs) = (ceiling_small (filter (names_resource x.name) tasks) (all_filtered (λ (o : Object). priority o ≤ 65535) (λ (o : Object). priority o ≤ 65535) (names_resource x.name) tasks (λ o t le. le) h), each xs)
+    each (x ∷ xs) = (beside_small (interrupt_ceiling x.name isrs == 0) x.name tasks h, each xs)
 
--- what is so of each resource that is read
-each_resource : (P : Resource → Type 0) → ((tasks : List Object) (o : Object) → P (resource tasks o)) → ((tasks : List Object) → P (scheduler tasks))
-    → (exists : Bool) (tasks others : List Object) → AllByRecursion P (map (resource tasks) others ++ (if exists then scheduler tasks ∷ [] else []))
-each_resource P one top exists tasks others =
-    all-append P (map (resource tasks) others) (if exists then scheduler tasks ∷ [] else []) (all_map P (resource tasks) others (each others)) (last exists)
+interrupts_of_scheduler : (exists : Bool) (tasks : List Object) → AllByRecursion (λ (r : Resource). r.interrupt_ceiling ≤ 256) (if exists then scheduler tasks ∷ [] else [])
+interrupts_of_scheduler true tasks = (omega arith, tt)
+interrupts_of_scheduler false tasks = tt
+
+interrupt_ceilings_small : (exists : Bool) (tasks isrs others : List Object) → AllByRecursion (λ (o : Object). priority o ≤ 255) isrs → AllByRecursion (λ (r : Resource). r.interrupt_ceiling ≤ 256) (map (resource tasks isrs) others ++ (if exists then scheduler tasks ∷ [] else []))
+interrupt_ceilings_small exists tasks isrs others h =
+    all-append (λ (r : Resource). r.interrupt_ceiling ≤ 256) (map (resource tasks isrs) others) (if exists then scheduler tasks ∷ [] else [])
+    (all_map (λ (r : Resource). r.interrupt_ceiling ≤ 256) (resource tasks isrs) others (each others))
+    (interrupts_of_scheduler exists tasks)
   where
-    each : (xs : List Object) → AllByRecursion (λ (o : Object). P (resource tasks o)) xs
+    each : (xs : List Object) → AllByRecursion (λ (o : Object). interrupt_ceiling o.name isrs ≤ 256) xs
     each [] = tt
-    each (x ∷ xs) = (one tasks x, each xs)
-
-    last : (b : Bool) → AllByRecursion P (if b then scheduler tasks ∷ [] else [])
-    last true = (top tasks, tt)
-    last false = tt
+    each (x ∷ xs) = (interrupt_ceiling_small (filter (names_resource x.name) isrs) (all_filtered (λ (o : Object). priority o ≤ 255) (λ (o : Object). priority o ≤ 255) (names_resource x.name) isrs (λ o t le. le) h), each xs)
 
 -- no name of one list is in the other
 abbrev AreApart : List Object → List Object → Type 0
@@ -337,7 +348,9 @@ linkable t each h =
     let the_task : Object → TaskObject = task (modes objects) (events objects) (resources objects) in
     let used : ℕ = explicit_bits 0 (objects_of (codes "EVENT") objects) in
     let len_tasks = length-map the_task tasks in
-    let len_isrs = length-names (filter (is_isr Two) objects) in
+    let isrs : List Object = filter (is_isr Two) objects in
+    let small_isrs = isr_priorities objects wrong in
+    let len_isrs = length-map isr isrs in
     let len_counters = length-map counter counters in
     let len_alarms = length-map the_alarm alarms in
     let max_tasks = limits.tasks in
@@ -355,14 +368,15 @@ linkable t each h =
       few_modes = few_modes objects room;
       some_mode = some;
       task_names = names_of_entries the_task (λ (x : TaskObject). x.name) tasks (λ o. refl) (names_by_kind objects named (codes "TASK") same.1.1.0);
-      isr_names = names_by_test objects named (codes "ISR") (has_category 2) same.1.1.1.0;
+      isr_names = names_of_entries isr (λ (x : IsrObject). x.name) isrs (λ o. refl) (names_by_test objects named (codes "ISR") (has_category 2) same.1.1.1.0);
       counter_names = names_of_entries counter (λ (x : CounterObject). x.name) counters (λ o. refl) (names_by_kind objects named (codes "COUNTER") same.1.1.1.1.0);
       alarm_names = names_of_entries the_alarm (λ (x : Alarm). x.name) alarms (λ o. refl) (names_by_kind objects named (codes "ALARM") same.1.1.1.1.1.0);
-      resource_names = with_scheduler (has_scheduler objects) tasks (filter (is_ordinary (has_scheduler objects)) objects) (named_of objects named (is_ordinary (has_scheduler objects))) ordinary.distinct (ordinary_apart objects named (has_scheduler objects));
+      resource_names = with_scheduler (has_scheduler objects) tasks isrs (filter (is_ordinary (has_scheduler objects)) objects) (named_of objects named (is_ordinary (has_scheduler objects))) ordinary.distinct (ordinary_apart objects named (has_scheduler objects));
       mode_names = mode_names objects named same.1.0;
       event_names = subst AreNames (sym (lookup_masks used (objects_of (codes "EVENT") objects))) (names_by_kind objects named (codes "EVENT") same.1.1.1.1.1.1.0);
       category_1_names = names_by_test objects named (codes "ISR") (has_category 1) same.1.1.1.0;
-      isrs_apart = all (λ (n : List ℕ). list_any (bytes_eq n) (map name_of (filter (is_isr One) objects)) ≡ false) (map name_of (filter (is_isr Two) objects)) (isrs_apart objects (distinct_names objects named (codes "ISR") same.1.1.1.0));
+      isrs_apart = all _ _ (all_map (λ (x : IsrObject). list_any (bytes_eq x.name) (map name_of (filter (is_isr One) objects)) ≡ false) isr isrs (unmapped name_of (λ (n : List ℕ). list_any (bytes_eq n) (map name_of (filter (is_isr One) objects)) ≡ false) isrs (isrs_apart objects (distinct_names objects named (codes "ISR") same.1.1.1.0))));
+      isr_priorities = all _ _ (all_map (λ (x : IsrObject). x.priority < 256) isr isrs (all_weaker (λ (o : Object). priority o < 256) (λ (o : Object). priority o ≤ 255) isrs (λ o q. omega (arith, q)) small_isrs));
       activations = all _ _ (all_map (λ (x : TaskObject). (1 ≤ x.activation) × (x.activation ≤ 255)) the_task tasks (all_weaker (λ (o : Object). (1 ≤ activation o) × (activation o ≤ 255)) IsActivated tasks (λ o q. in_activations (has (codes "EVENT") (attr_list o.attrs)) (activation o) q) activations));
       extended_once = all _ _ (all_map (λ (x : TaskObject). 0 < x.own.0 → x.activation ≡ 1) the_task tasks (all_weaker (λ (o : Object). 0 < own_bits 0 (events objects) (attr_list o.attrs) → activation o ≡ 1) IsActivated tasks (λ o q. extended_once (events objects) (attr_list o.attrs) (activation o) q) activations));
       internals = all _ _ (all_map (λ (x : TaskObject). IsInternalAmong (resources objects) x.internal) the_task tasks (each_of (λ (o : Object). internal_among (resources objects) (attr_list o.attrs)) tasks));
@@ -371,9 +385,7 @@ linkable t each h =
       each_alarm = all _ _ (all_map (IsAlarmAmong (length (map the_task tasks)) (map counter counters)) the_alarm alarms (all_weaker (λ (o : Object). IsAlarmAmong (length (map the_task tasks)) (map counter counters) (the_alarm o)) (λ (o : Object). IsSoundAlarm objects (attr_list o.attrs) × IsInTime (counter_of objects o) (attr_list o.attrs)) alarms (λ o q. alarm_among objects limits o masks q.0 q.1) (all_both (λ (o : Object). IsSoundAlarm objects (attr_list o.attrs)) (λ (o : Object). IsInTime (counter_of objects o) (attr_list o.attrs)) alarms (sound_alarms t h) (times objects late))));
       alarm_starts = all _ _ (all_map (λ (x : Alarm). x.autostart < 2 ^ length (modes objects)) the_alarm alarms (each_of (λ (o : Object). autostart_below (modes objects) (attr_list o.attrs) some) alarms));
       no_starts = all _ _ (all_map (λ (x : Alarm). x.autostart ≡ 0 → (x.time ≡ 0) × (x.cycle ≡ 0)) the_alarm alarms (each_of (λ (o : Object). no_start (modes objects) (attr_list o.attrs) some) alarms));
-      ceilings = all _ _ (ceilings_small (has_scheduler objects) tasks (filter (is_ordinary (has_scheduler objects)) objects) small);
-      no_interrupt_ceilings = all _ _
-          (each_resource (λ (x : Resource). x.interrupt_ceiling ≡ 0) (λ others o. refl) (λ others. refl)
-          (has_scheduler objects) tasks (filter (is_ordinary (has_scheduler objects)) objects));
+      ceilings = all _ _ (ceilings_small (has_scheduler objects) tasks isrs (filter (is_ordinary (has_scheduler objects)) objects) small);
+      interrupt_ceilings = all _ _ (interrupt_ceilings_small (has_scheduler objects) tasks isrs (filter (is_ordinary (has_scheduler objects)) objects) small_isrs);
       each_event = all _ _ (all_masked used (objects_of (codes "EVENT") objects) masks);
     }

@@ -53,12 +53,12 @@ length-append : (xs ys : List Resource) → length (xs ++ ys) ≡ length xs + le
 length-append [] ys = omega arith
 length-append (x ∷ xs) ys = let h = length-append xs ys in omega (arith, h)
 
-few_with : (exists : Bool) (tasks others : List Object) → length others ≤ resource_limit exists → length (map (resource tasks) others ++ (if exists then scheduler tasks ∷ [] else [])) ≤ 8
-few_with true tasks others le = let a = length-append (map (resource tasks) others) (scheduler tasks ∷ []) in let b = length-map (resource tasks) others in omega (arith, a, b, le)
-few_with false tasks others le = let a = length-append (map (resource tasks) others) [] in let b = length-map (resource tasks) others in omega (arith, a, b, le)
+few_with : (exists : Bool) (tasks isrs others : List Object) → length others ≤ resource_limit exists → length (map (resource tasks isrs) others ++ (if exists then scheduler tasks ∷ [] else [])) ≤ 8
+few_with true tasks isrs others le = let a = length-append (map (resource tasks isrs) others) (scheduler tasks ∷ []) in let b = length-map (resource tasks isrs) others in omega (arith, a, b, le)
+few_with false tasks isrs others le = let a = length-append (map (resource tasks isrs) others) [] in let b = length-map (resource tasks isrs) others in omega (arith, a, b, le)
 
 pub few_resources : (objects : List Object) → beyond_limits objects ≡ [] → length (resources objects) ≤ 8
-few_resources objects e = few_with (has_scheduler objects) (objects_of (codes "TASK") objects) (filter (is_ordinary (has_scheduler objects)) objects) (within_limits objects e).resources
+few_resources objects e = few_with (has_scheduler objects) (objects_of (codes "TASK") objects) (filter (is_isr Two) objects) (filter (is_ordinary (has_scheduler objects)) objects) (within_limits objects e).resources
 
 pub length-names : (xs : List Object) → length (map name_of xs) ≡ length xs
 length-names [] = omega arith

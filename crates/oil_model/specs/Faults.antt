@@ -1,6 +1,6 @@
 -- The faults of a tree, and the least of them.
 use Rattle.std.specs.Prelude.{ℕ, Option}
-use Rattle.osek_values.specs.declared.refusal.OilRule.{OilRule, TheVariants.{O1, O2, O3, O4, O5, O6, O7, O9, O10, O11, O12, O13, O14, O15, O16, O17}}
+use Rattle.osek_values.specs.declared.refusal.OilRule.{OilRule, TheVariants.{O1, O2, O3, O4, O5, O6, O7, O9, O10, O11, O12, O13, O14, O15, O16, O17, O18}}
 use Rattle.oil_tree.specs.declared.tree.Tree.{Tree}
 use Rattle.osek_values.specs.declared.refused.LineFault.{LineFault}
 use Rattle.osek_values.specs.LeastFaults as faults
@@ -24,6 +24,7 @@ order O14 = 14
 order O15 = 15
 order O16 = 16
 order O17 = 17
+order O18 = 18
 
 abbrev pub HasNoFault : Tree → Type 0
 HasNoFault t = faults.HasNoFault order (λ (rule : OilRule). lines rule t)

@@ -3,8 +3,8 @@ use Rattle.std.specs.Prelude.{◌≡◌, ⊤, ℕ, ◌^◌, ◌<◌, ◌≤◌, 
 use Rattle.std.specs.{List.{list_any}, Str.{bytes_eq}}
 use Rattle.osek_values.specs.{declared.{limits.TheConstants.{MAX_TASKS, MAX_ACTIVATIONS, MAX_ISRS, MAX_COUNTERS, MAX_ALARMS, MAX_RESOURCES, MAX_MODES}, numbers.ResNo.{ResNo}}, Names.{AreNames}}
 use Rattle.oil_system.specs.declared.objects.{Action.{Action, TheVariants.{ActivateTask, SetEvent}}, Alarm.{Alarm}, Resource.{Resource}}
-use Rattle.oil_system.specs.declared.system.{TaskObject.{TaskObject}, CounterObject.{CounterObject}, EventObject.{EventObject}, System.{System}}
-use Rattle.oil_system.specs.Objects.{greatest_ceiling}
+use Rattle.oil_system.specs.declared.system.{TaskObject.{TaskObject}, IsrObject.{IsrObject}, CounterObject.{CounterObject}, EventObject.{EventObject}, System.{System}}
+use Rattle.oil_system.specs.Objects.{greatest_ceiling, greatest_interrupt_ceiling}
 
 -- past the end of the table stands a counter that declares nothing
 abbrev pub no_counter_object : CounterObject
@@ -45,7 +45,7 @@ pub record IsLinkable (s : System) : Type 0 where
   pub some_mode : 0 < length s.modes
   -- names
   pub task_names : AreNames (map (λ (x : TaskObject). x.name) s.tasks)
-  pub isr_names : AreNames s.isrs
+  pub isr_names : AreNames (map (λ (x : IsrObject). x.name) s.isrs)
   pub counter_names : AreNames (map (λ (x : CounterObject). x.name) s.counters)
   pub alarm_names : AreNames (map (λ (x : Alarm). x.name) s.alarms)
   pub resource_names : AreNames (map (λ (x : Resource). x.name) s.resources)
@@ -53,17 +53,17 @@ pub record IsLinkable (s : System) : Type 0 where
   pub event_names : AreNames (map (λ (x : EventObject). x.name) s.events)
   -- a name of a category 1 ISR is no other ISR's
   pub category_1_names : AreNames s.category_1_isrs
-  pub isrs_apart : All (λ (n : List ℕ). list_any (bytes_eq n) s.category_1_isrs ≡ false) s.isrs
+  pub isrs_apart : All (λ (x : IsrObject). list_any (bytes_eq x.name) s.category_1_isrs ≡ false) s.isrs
   -- the entries of the tables
   pub activations : All (λ (x : TaskObject). (1 ≤ x.activation) × (x.activation ≤ MAX_ACTIVATIONS)) s.tasks
   pub extended_once : All (λ (x : TaskObject). 0 < x.own.0 → x.activation ≡ 1) s.tasks
   pub internals : All (λ (x : TaskObject). IsInternalAmong s.resources x.internal) s.tasks
+  pub isr_priorities : All (λ (x : IsrObject). x.priority < greatest_interrupt_ceiling) s.isrs
   pub task_starts : All (λ (x : TaskObject). x.autostart < 2 ^ length s.modes) s.tasks
   pub each_counter : All (λ (x : CounterObject). (1 ≤ x.max) × (x.min_cycle ≤ x.max)) s.counters
   pub each_alarm : All (IsAlarmAmong (length s.tasks) s.counters) s.alarms
   pub alarm_starts : All (λ (x : Alarm). x.autostart < 2 ^ length s.modes) s.alarms
   pub no_starts : All (λ (x : Alarm). x.autostart ≡ 0 → (x.time ≡ 0) × (x.cycle ≡ 0)) s.alarms
   pub ceilings : All (λ (x : Resource). x.ceiling ≤ greatest_ceiling) s.resources
-  -- no resource keeps an ISR out yet
-  pub no_interrupt_ceilings : All (λ (x : Resource). x.interrupt_ceiling ≡ 0) s.resources
+  pub interrupt_ceilings : All (λ (x : Resource). x.interrupt_ceiling ≤ greatest_interrupt_ceiling) s.resources
   pub each_event : All (λ (x : EventObject). 0 < x.mask.0) s.events

@@ -59,7 +59,7 @@ category_number Two = 2
 abbrev pub is_isr : Category → Object → Bool
 is_isr category o = is_kind (codes "ISR") o && (number (codes "CATEGORY") (attr_list o.attrs) 0 == category_number category)
 
--- TASK, PRIORITY
+-- TASK and ISR, PRIORITY; an ISR's is 0 where it is missing
 abbrev pub priority : Object → ℕ
 priority o = number (codes "PRIORITY") (attr_list o.attrs) 0
 

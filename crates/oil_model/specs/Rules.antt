@@ -2,7 +2,7 @@
 use Rattle.std.specs.Prelude.{ℕ, ◌-◌, List, [], ◌∷◌, ◌++◌, Bool, true, false, not, ◌&&◌, ◌||◌, if◌then◌else◌, nat_le, nat_lt, ◌==◌, Option, Some, None, codes, find, filter, map, drop, slice_get}
 use Rattle.std.specs.{List.{list_any, flat_map}, Str.{bytes_eq}}
 use Rattle.osek_values.specs.declared.limits.TheConstants.{MAX_TASKS, MAX_ACTIVATIONS, MAX_ISRS, MAX_COUNTERS, MAX_ALARMS, MAX_EVENTS, MAX_RESOURCES, MAX_MODES}
-use Rattle.osek_values.specs.declared.refusal.OilRule.{OilRule, TheVariants.{O1, O2, O3, O4, O5, O6, O7, O9, O10, O11, O12, O13, O14, O15, O16, O17}}
+use Rattle.osek_values.specs.declared.refusal.OilRule.{OilRule, TheVariants.{O1, O2, O3, O4, O5, O6, O7, O9, O10, O11, O12, O13, O14, O15, O16, O17, O18}}
 use Rattle.oil_tree.specs.declared.tree.{Attr.{Attr}, Object.{Object}, Tree.{Tree}, Value.{Value, TheVariants.{Word}}}
 use Rattle.oil_model.specs.declared.{objects.Category.TheVariants.{Two}, table.{Scope.{Scope}, Entry.{Entry}}, domain.Domain.{Domain}}
 use Rattle.oil_model.specs.declared.domain.Domain.TheVariants as domain
@@ -172,17 +172,12 @@ late_times objects =
     map (line_at (codes "MINCYCLE")) (filter is_reversed (objects_of (codes "COUNTER") objects))
     ++ flat_map (late_times_of objects) (objects_of (codes "ALARM") objects)
 
--- O15: CATEGORY is a number other than 1 or 2; or a category 2 ISR names a RESOURCE, on the line of the first
+-- O15: CATEGORY is a number other than 1 or 2
 abbrev pub is_other_category : Object → Bool
 is_other_category o = not (number (codes "CATEGORY") (attr_list o.attrs) 1 == 1) && not (number (codes "CATEGORY") (attr_list o.attrs) 1 == 2)
 
-abbrev pub takes_resource : Object → Bool
-takes_resource o = is_isr Two o && has (codes "RESOURCE") (attr_list o.attrs)
-
-abbrev pub faulty_isrs : List Object → List ℕ
-faulty_isrs objects =
-    map (line_at (codes "CATEGORY")) (filter is_other_category (objects_of (codes "ISR") objects))
-    ++ map (line_at (codes "RESOURCE")) (filter takes_resource (objects_of (codes "ISR") objects))
+abbrev pub other_categories : List Object → List ℕ
+other_categories objects = map (line_at (codes "CATEGORY")) (filter is_other_category (objects_of (codes "ISR") objects))
 
 -- O16: a RESOURCE of a task names an INTERNAL resource other than the first that the task names
 abbrev pub is_internal_name : List Object → List ℕ → Bool
@@ -211,6 +206,19 @@ abbrev pub internal_schedulers : List Object → List ℕ
 internal_schedulers objects =
     if has_scheduler objects then map (line_at (codes "RESOURCEPROPERTY")) (filter is_internal_scheduler (objects_of (codes "RESOURCE") objects)) else []
 
+-- O18: a RESOURCE of a category 2 ISR names an INTERNAL resource, or RES_SCHEDULER where that exists
+abbrev pub is_barred_name : Bool → List Object → List ℕ → Bool
+is_barred_name scheduler objects n = is_internal_name objects n || (scheduler && bytes_eq n (codes "RES_SCHEDULER"))
+
+abbrev pub names_barred : Bool → List Object → Attr → Bool
+names_barred scheduler objects a = is_named (codes "RESOURCE") a && is_barred_name scheduler objects (word_of a.value)
+
+abbrev pub barred_resources_of : Bool → List Object → Object → List ℕ
+barred_resources_of scheduler objects o = map attr_line (filter (names_barred scheduler objects) (attr_list o.attrs))
+
+abbrev pub barred_resources : List Object → List ℕ
+barred_resources objects = flat_map (barred_resources_of (has_scheduler objects) objects) (filter (is_isr Two) objects)
+
 -- the lines on which a rule is violated
 abbrev pub lines : OilRule → Tree → List ℕ
 lines O1 t = unknown_kinds t.objects
@@ -226,6 +234,7 @@ lines O11 t = callbacks t.objects
 lines O12 t = empty_masks t.objects
 lines O13 t = beyond_limits t.objects
 lines O14 t = late_times t.objects
-lines O15 t = faulty_isrs t.objects
+lines O15 t = other_categories t.objects
 lines O16 t = second_internals t.objects
 lines O17 t = internal_schedulers t.objects
+lines O18 t = barred_resources t.objects

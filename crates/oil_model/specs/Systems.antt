@@ -1,10 +1,10 @@
 -- The system that a tree declares: a clause for each attribute (ISO 17356-6, standard objects).
-use Rattle.std.specs.{Prelude.{ℕ, ◌+◌, ◌-◌, ◌*◌, ◌^◌, max, List, [], ◌∷◌, ◌++◌, map, length, Bool, ◌&&◌, if◌then◌else◌, codes, filter, bit_or, false, Option, Some, None}, List.{list_any}}
+use Rattle.std.specs.{Prelude.{ℕ, ◌+◌, ◌-◌, ◌*◌, ◌^◌, max, ◌==◌, List, [], ◌∷◌, ◌++◌, map, length, Bool, ◌&&◌, if◌then◌else◌, codes, filter, bit_or, false, Option, Some, None}, List.{list_any, flat_map}}
 use Rattle.std.specs.Str.{bytes_eq}
 use Rattle.osek_values.specs.{Hooks.{hook_set, when, startup, shutdown, error, pre_task, post_task}, Numbers.{mask, task_no, counter_no, res_no}, declared.numbers.ResNo.{ResNo}}
 use Rattle.oil_system.specs.declared.objects.{Schedule.{Schedule, TheVariants.{Non, Full}}, Action.{Action, TheVariants.{ActivateTask, SetEvent}}, Alarm.{Alarm}, Resource.{Resource}}
-use Rattle.oil_system.specs.declared.system.{TaskObject.{TaskObject}, CounterObject.{CounterObject}, EventObject.{EventObject}, System.{System}}
-use Rattle.oil_tree.specs.{declared.tree.{Attr.{Attr}, Object.{Object}}, AttrLists.{attr_list}}
+use Rattle.oil_system.specs.declared.system.{TaskObject.{TaskObject}, IsrObject.{IsrObject}, CounterObject.{CounterObject}, EventObject.{EventObject}, System.{System}}
+use Rattle.oil_tree.specs.{declared.tree.{Attr.{Attr}, Object.{Object}, Value.{Value, TheVariants.{Word}}}, AttrLists.{attr_list}}
 use Rattle.oil_model.specs.{declared.objects.Category.TheVariants.{One, Two}, LookUp.{is_named, has, number, says, word_of, word, inner}}
 use Rattle.oil_model.specs.Objects.{objects_of, name_of, os_attrs, has_scheduler, is_other_mode, is_ordinary, is_isr, priority, activation, is_internal, maximum, minimum, alarm_time, cycle_time}
 use Rattle.oil_model.specs.Objects.{is_started, start, explicit_bits, mask_of, used_after}
@@ -98,6 +98,20 @@ task modes events resources o = record {
   internal = internal resources (attr_list o.attrs);
 }
 
+-- ISR: its priority, and the names of the resources that it names
+abbrev pub names_in : Value → List (List ℕ)
+names_in (Word n) = n ∷ []
+names_in _ = []
+
+abbrev pub resource_names_in : Attr → List (List ℕ)
+resource_names_in a = if is_named (codes "RESOURCE") a then names_in a.value else []
+
+abbrev pub resource_names : List Attr → List (List ℕ)
+resource_names attrs = flat_map resource_names_in attrs
+
+abbrev pub isr : Object → IsrObject
+isr o = record { name = o.name; priority = priority o; resources = resource_names (attr_list o.attrs) }
+
 -- COUNTER
 abbrev pub counter : Object → CounterObject
 counter o = record {
@@ -149,15 +163,33 @@ ceiling n tasks = above_all (filter (names_resource n) tasks)
 abbrev pub top_ceiling : List Object → ℕ
 top_ceiling tasks = max 1 (above_all tasks)
 
-abbrev pub resource : List Object → Object → Resource
-resource tasks o = record { name = o.name; ceiling = ceiling o.name tasks; internal = is_internal o; interrupt_ceiling = 0 }
+-- the ceiling for interrupts is 1 more than the highest priority of the category 2 ISRs that name it, or 0 where none does
+-- (ISO 17356-3, resource management in interrupt service routines)
+abbrev pub above_isrs : List Object → ℕ
+above_isrs [] = 0
+above_isrs (o ∷ isrs) = max (priority o + 1) (above_isrs isrs)
+
+abbrev pub interrupt_ceiling : List ℕ → List Object → ℕ
+interrupt_ceiling n isrs = above_isrs (filter (names_resource n) isrs)
+
+-- no task runs beside one that holds a resource of an ISR, as with RES_SCHEDULER
+abbrev pub ceiling_beside : ℕ → List ℕ → List Object → ℕ
+ceiling_beside interrupts n tasks = if interrupts == 0 then ceiling n tasks else top_ceiling tasks
+
+abbrev pub resource : List Object → List Object → Object → Resource
+resource tasks isrs o = record {
+  name = o.name;
+  ceiling = ceiling_beside (interrupt_ceiling o.name isrs) o.name tasks;
+  internal = is_internal o;
+  interrupt_ceiling = interrupt_ceiling o.name isrs;
+}
 
 abbrev pub scheduler : List Object → Resource
 scheduler tasks = record { name = codes "RES_SCHEDULER"; ceiling = top_ceiling tasks; internal = false; interrupt_ceiling = 0 }
 
 abbrev pub resources_with : Bool → List Object → List Object → List Resource
 resources_with exists tasks objects =
-    map (resource tasks) (filter (is_ordinary exists) objects) ++ (if exists then scheduler tasks ∷ [] else [])
+    map (resource tasks (filter (is_isr Two) objects)) (filter (is_ordinary exists) objects) ++ (if exists then scheduler tasks ∷ [] else [])
 
 abbrev pub resources : List Object → List Resource
 resources objects = resources_with (has_scheduler objects) (objects_of (codes "TASK") objects) objects
@@ -169,7 +201,7 @@ abbrev pub system_of : List Object → System
 system_of objects = record {
   hooks = hook_set (hooks objects);
   tasks = map (task (modes objects) (events objects) (resources objects)) (objects_of (codes "TASK") objects);
-  isrs = map name_of (filter (is_isr Two) objects);
+  isrs = map isr (filter (is_isr Two) objects);
   category_1_isrs = map name_of (filter (is_isr One) objects);
   counters = map counter (objects_of (codes "COUNTER") objects);
   alarms = map (alarm (names_of (codes "COUNTER") objects) (names_of (codes "TASK") objects) (modes objects) (events objects)) (objects_of (codes "ALARM") objects);

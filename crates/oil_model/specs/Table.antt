@@ -61,8 +61,9 @@ rows scope.Task =
     ∷ [])))))
 rows scope.Isr =
     required (codes "CATEGORY") any_number
+    ∷ (optional (codes "PRIORITY") (domain.Number 0 255)
     ∷ (many (codes "RESOURCE") domain.ResourceName
-    ∷ [])
+    ∷ []))
 rows scope.Counter =
     required (codes "MAXALLOWEDVALUE") (domain.Number 1 0xffff_ffff)
     ∷ (optional (codes "TICKSPERBASE") any_number

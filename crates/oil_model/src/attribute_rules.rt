@@ -102,7 +102,7 @@ fn least_double(scope: Scope, attrs: &[Attr]) -> Option<u32>
                 sooner(double(b"ACTIVATION", attrs), double(b"AUTOSTART", attrs)),
             ),
         ),
-        Scope::Isr => double(b"CATEGORY", attrs),
+        Scope::Isr => sooner(double(b"CATEGORY", attrs), double(b"PRIORITY", attrs)),
         Scope::Counter => sooner(
             double(b"MAXALLOWEDVALUE", attrs),
             sooner(double(b"TICKSPERBASE", attrs), double(b"MINCYCLE", attrs)),

@@ -12,7 +12,8 @@ use oil_tree::{Attr, Object};
 use osek_values::{Memory, ResNo};
 use std::alloc::Global;
 
-fn internal_names<'a>(alloc: Global, objects: &'a [Object]) -> Result<NameSet<'a>, Memory>
+/// The names of the INTERNAL resources.
+pub fn internal_names<'a>(alloc: Global, objects: &'a [Object]) -> Result<NameSet<'a>, Memory>
     ensures { IfOk result (λ names. KnowsInternals names objects.now) }
 {
     let mut names = NameSet::new(alloc);

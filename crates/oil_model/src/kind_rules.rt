@@ -5,9 +5,7 @@ ghost use Rattle.oil_model.specs.Rules as rules_of;
 
 use crate::lines::sooner;
 use crate::look_up::{has, number, says};
-use crate::objects::{
-    Category, activation, is_called, is_internal, is_isr, is_kind, line_at, maximum, minimum,
-};
+use crate::objects::{activation, is_called, is_internal, is_kind, line_at, maximum, minimum};
 use oil_tree::Object;
 
 /// A rule on each object of a kind.
@@ -23,8 +21,6 @@ pub enum KindRule {
     ReversedCounter,
     /// CATEGORY other than 1 and 2.
     OtherCategory,
-    /// RESOURCE of a category 2 ISR.
-    ResourceOfIsr,
     /// RESOURCEPROPERTY of RES_SCHEDULER that is INTERNAL.
     InternalScheduler,
 }
@@ -39,7 +35,6 @@ fn kind_of(rule: KindRule) -> &'static [u8]
         KindRule::Callback => b"ALARM",
         KindRule::ReversedCounter => b"COUNTER",
         KindRule::OtherCategory => b"ISR",
-        KindRule::ResourceOfIsr => b"ISR",
         KindRule::InternalScheduler => b"RESOURCE",
     }
 }
@@ -54,7 +49,6 @@ fn attribute_of(rule: KindRule) -> &'static [u8]
         KindRule::Callback => b"ACTION",
         KindRule::ReversedCounter => b"MINCYCLE",
         KindRule::OtherCategory => b"CATEGORY",
-        KindRule::ResourceOfIsr => b"RESOURCE",
         KindRule::InternalScheduler => b"RESOURCEPROPERTY",
     }
 }
@@ -100,12 +94,6 @@ fn is_other_category(object: &Object) -> bool
     category != 1 && category != 2
 }
 
-fn takes_resource(object: &Object) -> bool
-    ensures { result ≡ rules_of.takes_resource object.now }
-{
-    is_isr(Category::Two, object) && has(b"RESOURCE", object.attrs.as_slice())
-}
-
 fn is_reversed(counter: &Object) -> bool
     ensures { result ≡ rules_of.is_reversed counter.now }
 {
@@ -123,7 +111,6 @@ fn is_violated(rule: KindRule, object: &Object) -> bool
         KindRule::Callback => is_callback(object),
         KindRule::ReversedCounter => is_reversed(object),
         KindRule::OtherCategory => is_other_category(object),
-        KindRule::ResourceOfIsr => takes_resource(object),
         KindRule::InternalScheduler => is_internal_scheduler(object),
     }
 }

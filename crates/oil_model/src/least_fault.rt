@@ -7,17 +7,18 @@ use crate::attribute_rules::{
 };
 use crate::fault::ModelFault;
 use crate::internals::second_internal;
+use crate::isr_resources::barred_resource;
 use crate::kind_rules::{KindRule, least_violation};
 use crate::limits::beyond_limit;
 use crate::masks::empty_mask;
-use crate::object_rules::{faulty_isr, internal_scheduler, os_fault, repeated_name, unknown_kind};
+use crate::object_rules::{internal_scheduler, os_fault, repeated_name, unknown_kind};
 use crate::times::late_time;
 use oil_tree::Tree;
 use osek_values::{Memory, OilRule};
 use std::alloc::Global;
 
 /// The rules, in their order.
-const RULES: [OilRule; 16] = [
+const RULES: [OilRule; 17] = [
     OilRule::O1,
     OilRule::O2,
     OilRule::O3,
@@ -34,6 +35,7 @@ const RULES: [OilRule; 16] = [
     OilRule::O15,
     OilRule::O16,
     OilRule::O17,
+    OilRule::O18,
 ];
 
 /// The least line on which a rule is violated.
@@ -55,9 +57,10 @@ fn least_line(alloc: Global, rule: OilRule, tree: &Tree) -> Result<Option<u32>, 
         OilRule::O12 => Ok(empty_mask(objects)),
         OilRule::O13 => Ok(beyond_limit(objects)),
         OilRule::O14 => Ok(late_time(objects)),
-        OilRule::O15 => Ok(faulty_isr(objects)),
+        OilRule::O15 => Ok(least_violation(KindRule::OtherCategory, objects)),
         OilRule::O16 => second_internal(alloc, objects),
         OilRule::O17 => Ok(internal_scheduler(objects)),
+        OilRule::O18 => barred_resource(alloc, objects),
     }
 }
 

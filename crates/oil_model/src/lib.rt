@@ -1,4 +1,4 @@
-//! The system that an OIL tree declares, or its least fault (ISO 17356-6, standard objects; the rules O1 to O17 are this
+//! The system that an OIL tree declares, or its least fault (ISO 17356-6, standard objects; the rules O1 to O18 are this
 //! project's profile).
 #![tactic(auto)]
 
@@ -9,6 +9,8 @@ mod events;
 mod fault;
 mod hooks;
 mod internals;
+mod isr_resources;
+mod isrs;
 mod kind_rules;
 mod laws;
 mod least_fault;

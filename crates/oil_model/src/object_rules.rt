@@ -80,17 +80,6 @@ pub fn os_fault(cpu: u32, objects: &[Object]) -> Option<u32>
     if seen { best } else { Some(cpu) }
 }
 
-/// The least line of a CATEGORY other than 1 and 2, or of the first RESOURCE of a category 2 ISR.
-#[tactic(auto, using(crate::proofs::Leasts::least_append))]
-pub fn faulty_isr(objects: &[Object]) -> Option<u32>
-    ensures { result ≡ least (rules_of.faulty_isrs objects.now) }
-{
-    sooner(
-        least_violation(KindRule::OtherCategory, objects),
-        least_violation(KindRule::ResourceOfIsr, objects),
-    )
-}
-
 /// The line of a RESOURCEPROPERTY that makes the RES_SCHEDULER that exists INTERNAL.
 pub fn internal_scheduler(objects: &[Object]) -> Option<u32>
     ensures { result ≡ least (rules_of.internal_schedulers objects.now) }

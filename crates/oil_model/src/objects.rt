@@ -95,7 +95,7 @@ pub fn is_isr(category: Category, object: &Object) -> bool
         && number(b"CATEGORY", object.attrs.as_slice(), 0) == category_number(category)
 }
 
-/// PRIORITY of a task.
+/// PRIORITY of a task or an ISR.
 pub fn priority(object: &Object) -> u64
     ensures { result ≡ priority object.now }
 {

@@ -12,12 +12,12 @@ use crate::alarms::{alarms, counters};
 use crate::events::events;
 use crate::fault::ModelError;
 use crate::hooks::hooks;
+use crate::isrs::{category_1_isrs, isrs};
 use crate::least_fault::least_fault;
 use crate::modes::modes;
 use crate::names::read_names;
-use crate::objects::Category;
 use crate::resources::resources;
-use crate::tasks::{isrs, tasks};
+use crate::tasks::tasks;
 use oil_system::System;
 use oil_tree::{Object, Tree};
 use osek_values::Memory;
@@ -41,13 +41,13 @@ fn build(alloc: Global, objects: &[Object]) -> Result<System, Memory>
         resources.as_slice(),
     )?;
     let alarms = alarms(alloc, objects, modes.as_slice(), events.as_slice())?;
-    let category_2_isrs = isrs(alloc, Category::Two, objects)?;
-    let category_1_isrs = isrs(alloc, Category::One, objects)?;
+    let isrs = isrs(alloc, objects)?;
+    let category_1_isrs = category_1_isrs(alloc, objects)?;
     let counters = counters(alloc, objects)?;
     Ok(System {
         hooks: hooks(objects),
         tasks,
-        isrs: category_2_isrs,
+        isrs,
         category_1_isrs,
         counters,
         alarms,

@@ -1,12 +1,14 @@
 //! Resources and their ceilings (ISO 17356-3, priority ceiling protocol).
 ghost use Rattle.std.specs.Prelude.{◌≡◌, ◌+◌, ◌*◌, [], IfOk, map, filter, codes};
-ghost use Rattle.oil_model.specs.{Lists.{found_in}, Objects.{objects_of, is_ordinary}, Rules.{wrong_in}};
-ghost use Rattle.oil_model.specs.Systems.{is_naming, names_resource, ceiling, top_ceiling, resource, scheduler, resources};
+ghost use Rattle.oil_model.specs.{declared.objects.Category.TheVariants.{Two}, Lists.{found_in}, Objects.{objects_of, is_isr, is_ordinary}, Rules.{wrong_in}};
+ghost use Rattle.oil_model.specs.Systems.{is_naming, names_resource, ceiling, top_ceiling, interrupt_ceiling, ceiling_beside, resource, scheduler, resources};
 
 use crate::look_up::{is_named, word_of};
-use crate::names;
-use crate::objects::{has_scheduler, is_internal, is_kind, is_ordinary, priority};
+use crate::objects::{
+    Category, has_scheduler, is_internal, is_isr, is_kind, is_ordinary, priority,
+};
 use crate::tasks::narrow;
+use crate::{isrs, names};
 use oil_system::Resource;
 use oil_tree::{Attr, Object};
 use osek_values::{Memory, Seq, copied};
@@ -67,22 +69,67 @@ fn top_ceiling(objects: &[Object]) -> u32
     highest
 }
 
+/// One more than the priority of an ISR.
+fn above_isr(priority: u8) -> u16
+    ensures { result ≡ priority + 1 }
+{
+    u16::from(priority) + 1
+}
+
+/// The ceiling of a resource for interrupts.
+fn interrupt_ceiling(name: &[u8], objects: &[Object]) -> u16
+    requires { found_in wrong_in objects.now ≡ [] }
+    ensures { result ≡ interrupt_ceiling name.now (filter (is_isr Two) objects.now) }
+{
+    let mut highest = 0;
+    for object in objects {
+        if is_isr(Category::Two, object) {
+            let level = above_isr(isrs::narrow(priority(object)));
+            if names_resource(name, object) {
+                highest = highest.max(level);
+            }
+        }
+    }
+    highest
+}
+
+/// The ceiling of a resource for tasks, by its ceiling for interrupts.
+fn ceiling_beside(interrupts: u16, name: &[u8], objects: &[Object]) -> u32
+    requires { found_in wrong_in objects.now ≡ [] }
+    ensures { result ≡ ceiling_beside interrupts name.now (objects_of (codes "TASK") objects.now) }
+{
+    if interrupts == 0 {
+        ceiling(name, objects)
+    } else {
+        top_ceiling(objects)
+    }
+}
+
+fn resource(alloc: Global, object: &Object, objects: &[Object]) -> Result<Resource, Memory>
+    requires { found_in wrong_in objects.now ≡ [] }
+    ensures { IfOk result (λ r. r ≡ resource (objects_of (codes "TASK") objects.now) (filter (is_isr Two) objects.now) object.now) }
+{
+    let bytes = object.name.as_bytes();
+    let name = copied(alloc, &object.name)?;
+    let interrupts = interrupt_ceiling(bytes, objects);
+    let ceiling = ceiling_beside(interrupts, bytes, objects);
+    Ok(Resource {
+        name,
+        ceiling,
+        internal: is_internal(object),
+        interrupt_ceiling: interrupts,
+    })
+}
+
 // The resources but for the RES_SCHEDULER that exists.
 fn ordinary(alloc: Global, scheduler: bool, objects: &[Object]) -> Result<Vec<Resource>, Memory>
     requires { found_in wrong_in objects.now ≡ [] }
-    ensures { IfOk result (λ found. found.items ≡ map (resource (objects_of (codes "TASK") objects.now)) (filter (is_ordinary scheduler) objects.now)) }
+    ensures { IfOk result (λ found. found.items ≡ map (resource (objects_of (codes "TASK") objects.now) (filter (is_isr Two) objects.now)) (filter (is_ordinary scheduler) objects.now)) }
 {
     let mut found = Vec::new(alloc);
     for object in objects {
         if is_ordinary(scheduler, object) {
-            let name = copied(alloc, &object.name)?;
-            let ceiling = ceiling(object.name.as_bytes(), objects);
-            found.push(Resource {
-                name,
-                ceiling,
-                internal: is_internal(object),
-                interrupt_ceiling: 0,
-            })?;
+            found.push(resource(alloc, object, objects)?)?;
         }
     }
     Ok(found)

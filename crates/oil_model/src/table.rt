@@ -142,6 +142,8 @@ fn isr_entry(name: &[u8]) -> Option<Entry>
 {
     if same(name, b"CATEGORY") {
         required(Domain::Number(0, u64::MAX))
+    } else if same(name, b"PRIORITY") {
+        optional(Domain::Number(0, 255))
     } else if same(name, b"RESOURCE") {
         many(Domain::ResourceName)
     } else {

@@ -1,12 +1,12 @@
-//! Tasks and ISRs.
-ghost use Rattle.std.specs.Prelude.{◌≡◌, ◌≤◌, [], length, IfOk, map, filter, codes};
-ghost use Rattle.oil_model.specs.{Lists.{found_in}, Objects.{objects_of, is_isr, name_of, priority, activation}, Rules.{wrong_in, wrong_activations}, Systems.{schedule, task}};
+//! Tasks.
+ghost use Rattle.std.specs.Prelude.{◌≡◌, ◌≤◌, [], length, IfOk, map, codes};
+ghost use Rattle.oil_model.specs.{Lists.{found_in}, Objects.{objects_of, priority, activation}, Rules.{wrong_in, wrong_activations}, Systems.{schedule, task}};
 
 use crate::events::own_bits;
 use crate::internals::internal;
 use crate::look_up::says;
 use crate::modes::autostart;
-use crate::objects::{Category, activation, is_isr, is_kind, priority};
+use crate::objects::{activation, is_kind, priority};
 use oil_system::{EventObject, Resource, Schedule, TaskObject};
 use oil_tree::{Attr, Object};
 use osek_values::{Mask, Memory, Name, Seq, copied};
@@ -85,17 +85,4 @@ pub fn tasks(
         }
     }
     Ok(Seq::of(found))
-}
-
-/// The names of the ISRs of a category.
-pub fn isrs(alloc: Global, category: Category, objects: &[Object]) -> Result<Seq<Name>, Memory>
-    ensures { IfOk result (λ names. names ≡ map name_of (filter (is_isr category) objects.now)) }
-{
-    let mut names = Vec::new(alloc);
-    for object in objects {
-        if is_isr(category, object) {
-            names.push(copied(alloc, &object.name)?)?;
-        }
-    }
-    Ok(Seq::of(names))
 }

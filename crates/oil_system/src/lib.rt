@@ -5,4 +5,4 @@ mod objects;
 mod system;
 
 pub use objects::{Action, Alarm, Resource, Schedule};
-pub use system::{CounterObject, EventObject, System, TaskObject};
+pub use system::{CounterObject, EventObject, IsrObject, System, TaskObject};

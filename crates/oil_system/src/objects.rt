@@ -34,6 +34,6 @@ pub struct Resource {
     pub ceiling: u32,
     /// Whether its RESOURCEPROPERTY is INTERNAL.
     pub internal: bool,
-    /// One more than the highest priority of the ISRs that name it, and 0 if none does.
+    /// One more than the highest priority of the category 2 ISRs that name it, and 0 if none does.
     pub interrupt_ceiling: u16,
 }

@@ -20,6 +20,16 @@ pub struct TaskObject {
     pub internal: Option<ResNo>,
 }
 
+/// An ISR object of category 2.
+#[derive(Debug, Drop)]
+pub struct IsrObject {
+    pub name: Name,
+    /// Larger is higher, 0 the lowest.
+    pub priority: u8,
+    /// The names of the resources that it names.
+    pub resources: Seq<Name>,
+}
+
 /// A COUNTER object.
 #[derive(Debug, Drop)]
 pub struct CounterObject {
@@ -46,8 +56,8 @@ pub struct System {
     /// The hooks that the OS object sets TRUE.
     pub hooks: HookSet,
     pub tasks: Seq<TaskObject>,
-    /// The names of the category 2 ISRs.
-    pub isrs: Seq<Name>,
+    /// The category 2 ISRs.
+    pub isrs: Seq<IsrObject>,
     /// The names of the category 1 ISRs, which have no code and no arrivals.
     pub category_1_isrs: Seq<Name>,
     pub counters: Seq<CounterObject>,

@@ -16,6 +16,14 @@ live_height stack_count x = x.count * stack_count * x.activation
 abbrev pub task_height : ℕ → Task → ℕ
 task_height stack_count x = 1 + x.count + (if is_some x.internal then 2 * live_height stack_count x else live_height stack_count x)
 
+-- the routine of an ISR hasn't begun, or is at a block with one of so many stacks
+abbrev pub isr_height : ℕ → Isr → ℕ
+isr_height stack_count x = 1 + x.count * stack_count
+
+-- a tick routine holds nothing
+abbrev pub tick_height : Counter → ℕ
+tick_height x = 1 + x.count
+
 -- an event of an extended task is set or not
 abbrev pub event_height : Task → ℕ
 event_height x = 2 * count_ones x.own.0
@@ -36,6 +44,10 @@ module _ (app : App) where
   abbrev pub takable_count : ℕ
   takable_count = count_by (λ (r : Resource). not r.internal) app.resources
 
-  -- what each task can be in, whether each event is set, and whether each alarm is armed
+  -- where each routine can be
+  abbrev pub source_height : ℕ
+  source_height = sum_by tick_height app.counters + sum_by (isr_height (stacks takable_count)) app.isrs
+
+  -- what each task can be in, whether each event is set, whether each alarm is armed, and where each routine is
   abbrev pub height : ℕ
-  height = sum_by (task_height (stacks takable_count)) app.tasks + sum_by event_height app.tasks + 2 * length app.alarms
+  height = sum_by (task_height (stacks takable_count)) app.tasks + sum_by event_height app.tasks + 2 * length app.alarms + source_height

@@ -1,12 +1,12 @@
 -- What each application keeps: the conditions on its tables.
 use Rattle.std.proofs.Props.{props}
 use Rattle.std.specs.Prelude.{◌≡◌, ⊤, ℕ, ◌+◌, ◌-◌, ◌^◌, ◌<◌, ◌≤◌, Bool, true, false, not, ◌==◌, nat_lt, nat_le, ◌||◌, ◌&&◌, IsTrue, [], ◌++◌, List, length, map, slice_index_or}
-use Rattle.std.specs.Prelude.{All, if◌then◌else◌, Some, None}
+use Rattle.std.specs.Prelude.{All, Some, None}
 use Rattle.std.specs.{List.{IsDistinct, IsDistinct-prop, list_any, filter, enumerate_from}, Coded.{×_prop, Unit-prop, le_prop}, declared.option.Option.{Option}}
 use Rattle.osek_values.specs.declared.limits.TheConstants.{MAX_TASKS, MAX_ISRS, MAX_COUNTERS, MAX_ALARMS, MAX_RESOURCES, MAX_MODES, MAX_BLOCKS, MAX_ACTIVATIONS}
 use Rattle.osek_values.specs.declared.numbers.ResNo.{ResNo}
 use Rattle.osek_values.specs.{Names.{AreNames}, Numbers.{task_no, counter_no, block_no, mask}}
-use Rattle.oil_system.specs.{Objects.{greatest_ceiling}, declared.objects.{Alarm.{Alarm}, Resource.{Resource}, Action.{Action}}}
+use Rattle.oil_system.specs.{Objects.{greatest_ceiling, greatest_interrupt_ceiling}, declared.objects.{Alarm.{Alarm}, Resource.{Resource}, Action.{Action}}}
 use Rattle.oil_system.specs.declared.objects.Action.TheVariants as action
 use Rattle.oil_system.specs.declared.objects.Schedule.TheVariants as schedule
 use Rattle.osek_standard.specs.{declared.{objects.{Task.{Task}, Isr.{Isr}, Counter.{Counter}}, block.{Block.{Block}, Kind.{Kind}}, call.Call.{Call}}, Tables.{Tables}}
@@ -35,10 +35,6 @@ no_block = record { kind = kind.Loop; locked = false; line = 0; next = block_no 
 -- block b is among count blocks from first on
 abbrev pub IsAmong : ℕ → ℕ → ℕ → Type 0
 IsAmong b first count = (first ≤ b) × (b < first + count)
-
--- one more than the greatest priority of an ISR
-abbrev pub greatest_interrupt_ceiling : ℕ
-greatest_interrupt_ceiling = 256
 
 -- whether a resource of this number is INTERNAL
 abbrev pub is_internal : List Resource → ℕ → Bool
@@ -78,16 +74,12 @@ task_may last kind.IsrEnd = false
 task_may last kind.CountUp = false
 task_may last (kind.Expire a) = false
 
-abbrev pub is_for_resource : Call → Bool
-is_for_resource (call.Resource k r) = true
-is_for_resource _ = false
-
--- IsrEnd stands last in an ISR, and nowhere else; an ISR takes no resource yet
+-- IsrEnd stands last in an ISR, and nowhere else
 abbrev pub isr_may : Bool → Kind → Bool
 isr_may last (kind.Work n) = not last
 isr_may last (kind.Choice o) = not last
 isr_may last kind.Loop = not last
-isr_may last (kind.Call c) = if is_for_resource c then false else not last
+isr_may last (kind.Call c) = not last
 isr_may last kind.TaskEnd = false
 isr_may last kind.IsrEnd = last
 isr_may last kind.CountUp = false
@@ -175,14 +167,6 @@ module _ (t : Tables) where
     pub each : (b : ℕ) → IsAmong b first count → IsTrue (tick_may due (b - first) (block_at b).kind)
     pub next : (b : ℕ) → IsAmong b first count → b + 1 < first + count → (block_at b).next.0 ≡ b + 1
 
-  -- the ISRs have one priority, and no resource keeps one of them out
-  abbrev pub NoneNests : Type 0
-  NoneNests = All (λ (x : Isr). x.priority ≡ 0) t.isrs × All (λ (x : Resource). x.interrupt_ceiling ≡ 0) t.resources
-
-  -- What no text and no image brings yet. It is shut, so that a proof rests on it only where it opens it.
-  unfoldable pub IsClosed : Type 0
-  IsClosed = NoneNests
-
   pub record IsValid : Type 0 where
     -- five hooks, a bit each
     pub known_hooks : t.hooks.0 < 32
@@ -222,7 +206,6 @@ module _ (t : Tables) where
     -- each block has one owner
     pub apart : IsDistinct meet (owners t.tasks t.isrs t.counters)
     pub owned : (b : ℕ) → b < length t.blocks → IsTrue (list_any (is_within b) (owners t.tasks t.isrs t.counters))
-    pub closed : IsClosed
 
 module _ (t : Tables) where
   -- Each of these facts has one proof at most, so that an application may keep it.
@@ -259,9 +242,5 @@ module _ (t : Tables) where
   IsOtherWay-prop first count (kind.Choice other) = ×_prop le_prop le_prop
   IsOtherWay-prop first count _ = Unit-prop
 
-  pub IsClosed-prop : IsProp (IsClosed t)
-  unfolding IsClosed
-  IsClosed-prop = hlevel (props)
-
   pub IsValid-prop : IsProp (IsValid t)
-  IsValid-prop = hlevel (props, NamesEntries-prop, IsAction-prop, IsOtherWay-prop, IsInternal-prop, IsDistinct-prop, IsClosed-prop)
+  IsValid-prop = hlevel (props, NamesEntries-prop, IsAction-prop, IsOtherWay-prop, IsInternal-prop, IsDistinct-prop)

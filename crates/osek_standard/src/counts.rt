@@ -1,6 +1,6 @@
 //! How many points an application has, and how high its tables of possible states are.
 ghost use Rattle.std.specs.{Prelude.{◌≡◌, ◌≤◌, length, ◌*◌, not}, List.{sum_by, count_by}};
-ghost use Rattle.osek_standard.specs.Counts.{stacks, event_height, task_height};
+ghost use Rattle.osek_standard.specs.Counts.{stacks, event_height, task_height, isr_height, tick_height};
 
 use crate::app::App;
 use crate::objects::{Counter, Isr, Resource, Task};
@@ -8,6 +8,9 @@ use osek_values::limits::{MAX_COUNTERS, MAX_ISRS, MAX_RESOURCES, MAX_TASKS};
 
 // suspended; 65,535 blocks to wait at; and as many, each with 109,601 stacks, 255 activations, inside or not
 const MAX_TASK_HEIGHT: u64 = 1 + 65_535 + 65_535 * 109_601 * 255 * 2;
+
+// out; and 65,535 blocks to be at, each with 109,601 stacks
+const MAX_ISR_HEIGHT: u64 = 1 + 65_535 * 109_601;
 
 fn blocks_of_tasks(tasks: &[Task]) -> u32
     requires { length tasks.now ≤ MAX_TASKS }
@@ -87,6 +90,38 @@ fn events_of_tasks(tasks: &[Task]) -> u32
     tasks.iter().map(|task| 2 * task.own.0.count_ones()).sum()
 }
 
+// the activities of an ISR's routine, over so many stacks
+fn height_of_isr(isr: &Isr, stacks: u64) -> u64
+    requires { stacks ≤ 109601 }
+    ensures value { result ≡ isr_height stacks isr.now }
+    ensures few { result ≤ MAX_ISR_HEIGHT }
+{
+    1 + isr.count as u64 * stacks
+}
+
+fn heights_of_isrs(isrs: &[Isr], stacks: u64) -> u64
+    requires few { length isrs.now ≤ MAX_ISRS }
+    requires stacks { stacks ≤ 109601 }
+    ensures value { result ≡ sum_by (isr_height stacks) isrs.now }
+    ensures few { result ≤ 8 * MAX_ISR_HEIGHT }
+{
+    let mut height = 0;
+    for isr in isrs {
+        height += height_of_isr(isr, stacks);
+    }
+    height
+}
+
+fn heights_of_counters(counters: &[Counter]) -> u32
+    requires { length counters.now ≤ MAX_COUNTERS }
+    ensures { result ≡ sum_by tick_height counters.now }
+{
+    counters
+        .iter()
+        .map(|counter| 1 + counter.count as u32)
+        .sum()
+}
+
 impl App {
     ghost use Rattle.std.specs.Prelude.{◌≡◌};
     ghost use Rattle.osek_standard.specs.Counts.{points, height};
@@ -103,14 +138,17 @@ impl App {
     }
 
     /// How many values the parts of a state can have together, in a table of possible states: each task's activities,
-    /// each event set or not, and each alarm idle or armed.
+    /// each event set or not, each alarm idle or armed, and each routine out or in at a block.
     pub fn height(&self) -> u64
         ensures { result ≡ height self.now }
     {
         let tasks = self.tasks.as_slice();
         let stacks = stacks(takable_of(self.resources.as_slice()));
+        let sources = heights_of_counters(self.counters.as_slice()) as u64
+            + heights_of_isrs(self.isrs.as_slice(), stacks);
         heights_of_tasks(tasks, stacks)
             + events_of_tasks(tasks) as u64
             + 2 * self.alarms.len() as u64
+            + sources
     }
 }

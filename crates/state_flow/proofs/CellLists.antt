@@ -73,8 +73,18 @@ module _ {E : Type 0} where
       ]
 
   -- a cell of the same number in its place
-  pub order_set : (cells : List (Cell E)) (place : ℕ) (cell : Cell E) → AreInOrder cells → place < length cells → cell_number (get_or cells place cell) ≡ cell_number cell → AreInOrder (set cells place cell)
-  order_set cells place cell order known same = record {
+  pub order_set : (cells : List (Cell E)) (place : ℕ) (cell : Cell E) → AreInOrder cells → place < length cells → cell_number (get_or cells place cell) ≡ cell_number cell → cell.number ≡ cell_number cell
+      → AreInOrder (set cells place cell)
+  order_set cells place cell order known same told = record {
+    told = λ k d lt.
+        elim (cases_eq k place) [
+          | inl e ↦
+              (let here : get_or (set cells place cell) k d ≡ cell = ap (λ (n : ℕ). get_or (set cells place cell) n d) e ∙ get_or-set_same cells place cell d known in
+              subst (λ (x : Cell E). x.number ≡ cell_number x) (sym here) told)
+          | inr other ↦
+              subst (λ (x : Cell E). x.number ≡ cell_number x) (sym (get_or-set_other cells place k cell d other))
+              (order.told k d (let long = length-set cells place cell in omega (arith, lt, long)))
+        ];
     before = λ i j d lt below.
         let long = length-set cells place cell in
         let there : j < length cells = omega (arith, below, long) in
@@ -93,8 +103,15 @@ module _ {E : Type 0} where
       ]
 
   -- a new cell in its gap
-  pub order_insert : (cells : List (Cell E)) (gap : ℕ) (cell : Cell E) → AreInOrder cells → IsGapFor cells (cell_number cell) gap → AreInOrder (insert cells gap cell)
-  order_insert cells gap cell order at = record {
+  pub order_insert : (cells : List (Cell E)) (gap : ℕ) (cell : Cell E) → AreInOrder cells → cell.number ≡ cell_number cell → IsGapFor cells (cell_number cell) gap → AreInOrder (insert cells gap cell)
+  order_insert cells gap cell order told at = record {
+    told = λ k d lt.
+        let long : length (insert cells gap cell) ≡ length cells + 1 = length-insert cells gap cell at.known in
+        insert_place cells gap cell at.known (λ n x. n < length (insert cells gap cell) → x.number ≡ cell_number x) k d
+        (λ low less. order.told k d (omega (arith, low, at.known)))
+        (λ same less. told)
+        (λ j from next less. order.told j d (omega (arith, next, less, long)))
+        lt;
     before = λ i j d lt below.
         let long : length (insert cells gap cell) ≡ length cells + 1 = length-insert cells gap cell at.known in
         insert_place cells gap cell at.known (λ k x. k < j → cell_number x < cell_number (get_or (insert cells gap cell) j d)) i d
@@ -120,22 +137,25 @@ module _ {E : Type 0} where
   }
 
   -- the cells below a number come first
-  pub parted : (cells : List (Cell E)) (n : ℕ) → AreInOrder cells → IsPartitionedBy (λ (cell : Cell E). ltb (cell_number cell) n) cells
+  pub parted : (cells : List (Cell E)) (n : ℕ) → AreInOrder cells → IsPartitionedBy (λ (cell : Cell E). ltb cell.number n) cells
   parted cells n order i j d le lt below = elim (cases_eq i j) [
-    | inl same ↦ (ap (λ (k : ℕ). ltb (cell_number (get_or cells k d)) n) same ∙ below)
+    | inl same ↦ (ap (λ (k : ℕ). ltb (get_or cells k d).number n) same ∙ below)
     | inr other ↦
-        lt-ltb (cell_number (get_or cells i d)) n (omega (arith, order.before i j d (omega (arith, le, other)) lt, ltb-true (cell_number (get_or cells j d)) n below))
+        lt-ltb (get_or cells i d).number n
+        (omega (arith, order.told i d (omega (arith, le, lt)), order.told j d lt, order.before i j d (omega (arith, le, other)) lt, ltb-true (get_or cells j d).number n below))
   ]
 
   -- so a number that isn't there has its gap behind them
   pub gap_found : (cells : List (Cell E)) (n gap : ℕ) → AreInOrder cells → gap ≤ length cells
-      → IsPartitionPoint (λ (cell : Cell E). ltb (cell_number cell) n ≡ true) (λ (cell : Cell E). ltb (cell_number cell) n ≡ false) cells gap
+      → IsPartitionPoint (λ (cell : Cell E). ltb cell.number n ≡ true) (λ (cell : Cell E). ltb cell.number n ≡ false) cells gap
       → (gap < length cells → (d : Cell E) → cell_number (get_or cells gap d) ≡ n → ⊥) → IsGapFor cells n gap
   gap_found cells n gap order known parts other = record {
     known = known;
-    below = λ k d lt. ltb-true (cell_number (get_or cells k d)) n (parts.0 k d (omega arith) lt);
+    below = λ k d lt. (let less = ltb-true (get_or cells k d).number n (parts.0 k d (omega arith) lt) in omega (arith, less, order.told k d (omega (arith, lt, known))));
     above = λ k d from lt.
-        let here = ltb-false (cell_number (get_or cells gap d)) n (parts.1 gap d (omega arith) (omega (arith, from, lt))) in
+        let there : gap < length cells = omega (arith, from, lt) in
+        let no_less = ltb-false (get_or cells gap d).number n (parts.1 gap d (omega arith) there) in
+        let here : n ≤ cell_number (get_or cells gap d) = omega (arith, no_less, order.told gap d there) in
         let differ : cell_number (get_or cells gap d) ≢ n = other (omega (arith, from, lt)) d in
         elim (cases_eq gap k) [
           | inl same ↦ subst (λ (m : ℕ). n < cell_number (get_or cells m d)) same (omega (arith, here, differ))
@@ -144,20 +164,21 @@ module _ {E : Type 0} where
   }
 
   -- the cells up to a number come first
-  pub parted_behind : (cells : List (Cell E)) (n : ℕ) → AreInOrder cells → IsPartitionedBy (λ (cell : Cell E). leb (cell_number cell) n) cells
+  pub parted_behind : (cells : List (Cell E)) (n : ℕ) → AreInOrder cells → IsPartitionedBy (λ (cell : Cell E). leb cell.number n) cells
   parted_behind cells n order i j d le lt below = elim (cases_eq i j) [
-    | inl same ↦ (ap (λ (k : ℕ). leb (cell_number (get_or cells k d)) n) same ∙ below)
+    | inl same ↦ (ap (λ (k : ℕ). leb (get_or cells k d).number n) same ∙ below)
     | inr other ↦
-        le-leb (cell_number (get_or cells i d)) n (omega (arith, order.before i j d (omega (arith, le, other)) lt, leb-true (cell_number (get_or cells j d)) n below))
+        le-leb (get_or cells i d).number n
+        (omega (arith, order.told i d (omega (arith, le, lt)), order.told j d lt, order.before i j d (omega (arith, le, other)) lt, leb-true (get_or cells j d).number n below))
   ]
 
-  pub behind_found : (cells : List (Cell E)) (n place : ℕ) → place ≤ length cells
-      → IsPartitionPoint (λ (cell : Cell E). leb (cell_number cell) n ≡ true) (λ (cell : Cell E). leb (cell_number cell) n ≡ false) cells place
+  pub behind_found : (cells : List (Cell E)) (n place : ℕ) → AreInOrder cells → place ≤ length cells
+      → IsPartitionPoint (λ (cell : Cell E). leb cell.number n ≡ true) (λ (cell : Cell E). leb cell.number n ≡ false) cells place
       → IsBehind cells n place
-  behind_found cells n place known parts = record {
+  behind_found cells n place order known parts = record {
     known = known;
-    below = λ k d lt. leb-true (cell_number (get_or cells k d)) n (parts.0 k d (omega arith) lt);
-    above = λ k d from lt. leb-false (cell_number (get_or cells k d)) n (parts.1 k d from lt);
+    below = λ k d lt. (let few = leb-true (get_or cells k d).number n (parts.0 k d (omega arith) lt) in omega (arith, few, order.told k d (omega (arith, lt, known))));
+    above = λ k d from lt. (let more = leb-false (get_or cells k d).number n (parts.1 k d from lt) in omega (arith, more, order.told k d lt));
   }
 
   -- the next cell that waits is one that waits
@@ -179,7 +200,7 @@ module _ {E : Type 0} (IsElement : E → Type 0) (AreAlike IsLower : E → E →
         let waiting = sum_by-set waits cells place cell cell at.known in
         let total = sum_by-set (λ (x : Cell E). rank x.entry) cells place cell cell at.known in
         record {
-          order = order_set cells place cell order at.known (ap point_number (sym raised.point));
+          order = order_set cells place cell order at.known (ap point_number (sym raised.point)) (raised.number ∙ order.told place cell at.known ∙ ap point_number (sym raised.point));
           kept = λ x h none. elim (set_cases cells place cell x h) [
             | inl e ↦ subst (Contains cells) (sym (e ∙ raised.same (ap (λ (y : Cell E). y.waiting) (sym e) ∙ none))) among
             | inr stays ↦ stays
@@ -201,15 +222,15 @@ module _ {E : Type 0} (IsElement : E → Type 0) (AreAlike IsLower : E → E →
         }
 
     -- A new cell was put in its gap.
-    pub joined_new : (gap : ℕ) (cell : Cell E) → cell.point ≡ point → cell.entry ≡ entry → cell.waiting ≡ true → IsGapFor cells (point_number point) gap → IsJoined IsElement AreAlike IsLower rank cells point entry (insert cells gap cell)
-    joined_new gap cell here is waiting at =
+    pub joined_new : (gap : ℕ) (cell : Cell E) → cell.point ≡ point → cell.entry ≡ entry → cell.waiting ≡ true → cell.number ≡ point_number point → IsGapFor cells (point_number point) gap → IsJoined IsElement AreAlike IsLower rank cells point entry (insert cells gap cell)
+    joined_new gap cell here is waiting told at =
         let has = insert_has cells gap cell at.known in
         let long = length-insert cells gap cell at.known in
         let more = sum_by-insert waits cells gap cell in
         let total = sum_by-insert (λ (x : Cell E). rank x.entry) cells gap cell in
         let one : waits cell ≡ 1 = rw waiting refl in
         record {
-          order = order_insert cells gap cell order (subst (λ (p : Point). IsGapFor cells (point_number p) gap) (sym here) at);
+          order = order_insert cells gap cell order (told ∙ ap point_number (sym here)) (subst (λ (p : Point). IsGapFor cells (point_number p) gap) (sym here) at);
           kept = λ x h none. elim (insert_cases cells gap cell at.known x h) [
             | inl e ↦ absurd (let waits_now : x.waiting ≡ true = ap (λ (y : Cell E). y.waiting) e ∙ waiting in cc)
             | inr stays ↦ stays

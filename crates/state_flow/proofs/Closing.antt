@@ -90,7 +90,8 @@ module _ (cells : List (Cell PlainEntry)) (place : ℕ) (cell : Cell PlainEntry)
 
   pub evaluated_proper : (app : App) → AreProperCells app cells → AreProperCells app (set cells place (evaluated cell))
   evaluated_proper app proper_cells = record {
-    order = order_set cells place (evaluated cell) proper_cells.order known (ap cell_number (get_or_default cells place (evaluated cell) cell known ∙ is));
+    order = order_set cells place (evaluated cell) proper_cells.order known (ap cell_number (get_or_default cells place (evaluated cell) cell known ∙ is))
+        (subst (λ (x : Cell PlainEntry). x.number ≡ cell_number x) is (proper_cells.order.told place cell known));
     each = λ x h. elim (set_cases cells place (evaluated cell) x h) [
       | inl e ↦ subst (λ (y : Cell PlainEntry). IsProperRow app (row_of y)) (sym e) (proper_cells.each cell (place, known, is))
       | inr stays ↦ proper_cells.each x stays
@@ -204,7 +205,7 @@ counted_at_end app cells n progress none = (omega (arith, progress.most, none_wa
 -- while a cell waits, fewer evaluations were made than cells and values there are
 pub room_left : (app : App) (cells : List (Cell PlainEntry)) (n place : ℕ) → Progress app cells n → IsWaitingAt cells place → n < length cells + values_in cells
 room_left app cells n place progress at =
-    let d : Cell PlainEntry = record { point = point.Halted; entry = record { sets = [] }; waiting = false } in
+    let d : Cell PlainEntry = record { point = point.Halted; number = 0; entry = record { sets = [] }; waiting = false } in
     let some = get_or-le-sum_by waits cells place d at.known in
     let one : waits (get_or cells place d) ≡ 1 = rw (at.waits d) refl in
     omega (arith, progress.most, some, one)

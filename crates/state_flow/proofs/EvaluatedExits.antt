@@ -14,8 +14,8 @@ use Rattle.flow_exits.specs.{declared.exit.Exit.{Exit}, Exits.{AreExact}, Leavin
 use Rattle.flow_exits.proofs.Covering.{exits_cover, exits_shown}
 use Rattle.flow_rules.specs.declared.group.{NumberEnd.{NumberEnd}, Ends.{Ends}, ExitGroup.{ExitGroup}}
 use Rattle.flow_rules.specs.declared.group.Ends.TheVariants as ends
-use Rattle.flow_rules.specs.Groups.{holding, exits_by, exits_of, all_exits, AreKnownEnds, AreKnownGroups}
-use Rattle.flow_rules.proofs.{GrowingPools.{held_known}, LeavingPoints.{filled_numbers}}
+use Rattle.flow_rules.specs.Groups.{with_end, exits_by, exits_of, all_exits, AreKnownEnds, AreKnownGroups}
+use Rattle.flow_rules.proofs.{GrowingPools.{end_known}, EntryCounts.{filled_numbers}}
 use Rattle.flow_rules.specs.Rows.{IsProperRow}
 use Rattle.state_flow.specs.Reaching.{Leads}
 use Rattle.state_flow.proofs.ExitRows.{exits_lead, exit_row_proper}
@@ -40,9 +40,9 @@ by_ends : (pool : List Values) (g : ExitGroup) (e : Ends) → AreNumbersOf pool 
 by_ends pool g (ends.At points) known h x m =
     let p = map_among (λ (p : Point). record { target = p; decision = g.decision; status = g.status; entry = plain_entry pool g.entry }) x points m in
     record { entry = g.entry; known = known; is = ap (λ (y : Exit). y.entry) p.2 }
-by_ends pool g (ends.With c xs) known h x m =
-    let e = map_among (λ (y : NumberEnd). record { target = y.target; decision = g.decision; status = g.status; entry = plain_entry pool (holding g.entry c y.numbers) }) x xs m in
-    record { entry = holding g.entry c e.0.numbers; known = held_known pool g.entry c e.0.numbers h.0 known (h.1 e.0 (among_contained xs e.0 e.1)); is = ap (λ (y : Exit). y.entry) e.2 }
+by_ends pool g (ends.With xs) known h x m =
+    let e = map_among (λ (y : NumberEnd). record { target = y.target; decision = g.decision; status = g.status; entry = plain_entry pool (with_end g.entry y) }) x xs m in
+    record { entry = with_end g.entry e.0; known = end_known pool g.entry e.0 known (h e.0 (among_contained xs e.0 e.1)); is = ap (λ (y : Exit). y.entry) e.2 }
 
 by_numbers : (pool : List Values) (groups : List ExitGroup) → AreKnownGroups pool groups → (x : Exit) → Contains (all_exits pool groups) x → IsByNumbers pool x
 by_numbers pool groups known x m =

@@ -9,11 +9,11 @@ use Rattle.numbered_sets.specs.{declared.numbered_entry.NumberedEntry.{NumberedE
 use Rattle.flow_exits.specs.declared.exit.Exit.{Exit}
 use Rattle.flow_rules.specs.declared.group.{NumberEnd.{NumberEnd}, Ends.{Ends}, ExitGroup.{ExitGroup}}
 use Rattle.flow_rules.specs.declared.group.Ends.TheVariants as ends
-use Rattle.flow_rules.specs.Groups.{holding, exits_by, exits_of, all_exits}
+use Rattle.flow_rules.specs.Groups.{with_end, exits_by, exits_of, all_exits}
 use Rattle.state_flow.specs.declared.cells.Cell.{Cell}
 use Rattle.flow_rules.specs.Rows.{IsProperRow}
 use Rattle.state_flow.proofs.JoinedRows.{joined_none, joined_then}
-use Rattle.state_flow.specs.{PlainCells.{plain_cells}, Numbering.{AreNumberedCells}, ExitRows.{rows_at, rows_with, rows_by, all_rows, AreProperRows, AreRowsJoined}}
+use Rattle.state_flow.specs.{PlainCells.{plain_cells}, Numbering.{AreNumberedCells}, ExitRows.{rows_at, end_row, rows_with, rows_by, all_rows, AreProperRows, AreRowsJoined}}
 
 module _ (app : App) (pool : List Values) where
   pub joined_nothing : (cells : List (Cell NumberedEntry)) → AreNumberedCells app pool cells → AreRowsJoined app pool cells [] cells
@@ -30,17 +30,14 @@ module _ (app : App) (pool : List Values) where
 abbrev pub point_row : List Values → NumberedEntry → Point → TableRow
 point_row pool entry p = row_at p (plain_entry pool entry)
 
-abbrev pub end_row : List Values → NumberedEntry → ℕ → NumberEnd → TableRow
-end_row pool entry c x = row_at x.target (plain_entry pool (holding entry c x.numbers))
-
 map_more : {X : Type 0} (f : X → TableRow) (items : List X) (i : ℕ) (x : X) → i < length items → x ≡ get_or items i x → map f (take i items) ++ f x ∷ [] ≡ map f (take (i + 1) items)
 map_more f items i x lt e = sym (ap (map f) (take_more items i x lt ∙ ap (λ y. take i items ++ y ∷ []) (sym e)) ∙ map-append f (take i items) (x ∷ []))
 
 pub point_more : (pool : List Values) (entry : NumberedEntry) (items : List Point) (i : ℕ) (p : Point) → i < length items → p ≡ get_or items i p → rows_at pool entry (take i items) ++ point_row pool entry p ∷ [] ≡ rows_at pool entry (take (i + 1) items)
 point_more pool entry items i p lt e = map_more (point_row pool entry) items i p lt e
 
-pub end_more : (pool : List Values) (entry : NumberedEntry) (c : ℕ) (items : List NumberEnd) (i : ℕ) (x : NumberEnd) → i < length items → x ≡ get_or items i x → rows_with pool entry c (take i items) ++ end_row pool entry c x ∷ [] ≡ rows_with pool entry c (take (i + 1) items)
-end_more pool entry c items i x lt e = map_more (end_row pool entry c) items i x lt e
+pub end_more : (pool : List Values) (entry : NumberedEntry) (items : List NumberEnd) (i : ℕ) (x : NumberEnd) → i < length items → x ≡ get_or items i x → rows_with pool entry (take i items) ++ end_row pool entry x ∷ [] ≡ rows_with pool entry (take (i + 1) items)
+end_more pool entry items i x lt e = map_more (end_row pool entry) items i x lt e
 
 listed_item : {X : Type 0} (items : List X) (i : ℕ) (x : X) → i < length items → x ≡ get_or items i x → Contains items x
 listed_item items i x lt e = subst (Contains items) (sym e) (Contains-get_or items i x lt)
@@ -49,9 +46,9 @@ pub point_proper : (app : App) (pool : List Values) (entry : NumberedEntry) (ite
 point_proper app pool entry items i p lt e h =
     h (point_row pool entry p) (among_contained (rows_at pool entry items) (point_row pool entry p) (among_map (point_row pool entry) p items (contained_among items p (listed_item items i p lt e))))
 
-pub end_proper : (app : App) (pool : List Values) (entry : NumberedEntry) (c : ℕ) (items : List NumberEnd) (i : ℕ) (x : NumberEnd) → i < length items → x ≡ get_or items i x → AreProperRows app (rows_with pool entry c items) → IsProperRow app (end_row pool entry c x)
-end_proper app pool entry c items i x lt e h =
-    h (end_row pool entry c x) (among_contained (rows_with pool entry c items) (end_row pool entry c x) (among_map (end_row pool entry c) x items (contained_among items x (listed_item items i x lt e))))
+pub end_proper : (app : App) (pool : List Values) (entry : NumberedEntry) (items : List NumberEnd) (i : ℕ) (x : NumberEnd) → i < length items → x ≡ get_or items i x → AreProperRows app (rows_with pool entry items) → IsProperRow app (end_row pool entry x)
+end_proper app pool entry items i x lt e h =
+    h (end_row pool entry x) (among_contained (rows_with pool entry items) (end_row pool entry x) (among_map (end_row pool entry) x items (contained_among items x (listed_item items i x lt e))))
 
 pub end_listed : (items : List NumberEnd) (i : ℕ) (x : NumberEnd) → i < length items → x ≡ get_or items i x → Contains items x
 end_listed items i x lt e = listed_item items i x lt e
@@ -78,7 +75,7 @@ map_twice f (x ∷ xs) = ap (λ (rs : List TableRow). its_row (f x) ∷ rs) (map
 
 rows_of_ends : (pool : List Values) (g : ExitGroup) (e : Ends) → map its_row (exits_by pool g e) ≡ rows_by pool g.entry e
 rows_of_ends pool g (ends.At points) = map_twice (λ (p : Point). record { target = p; decision = g.decision; status = g.status; entry = plain_entry pool g.entry }) points
-rows_of_ends pool g (ends.With c xs) = map_twice (λ (x : NumberEnd). record { target = x.target; decision = g.decision; status = g.status; entry = plain_entry pool (holding g.entry c x.numbers) }) xs
+rows_of_ends pool g (ends.With xs) = map_twice (λ (x : NumberEnd). record { target = x.target; decision = g.decision; status = g.status; entry = plain_entry pool (with_end g.entry x) }) xs
 
 pub rows_of_exits : (pool : List Values) (groups : List ExitGroup) → map its_row (all_exits pool groups) ≡ all_rows pool groups
 rows_of_exits pool [] = refl

@@ -51,16 +51,24 @@ module _ (pool : List Values) (cells after : List (Cell NumberedEntry)) (point :
   above : (q : Point) (e : NumberedEntry) → HasAbove IsBelowNumbers after q e → HasAbove IsBelow (plain_cells pool after) q (plain_entry pool e)
   above q e x = record { cell = plain_cell pool x.cell; among = among_plain pool after x.cell x.among; at = x.at; above = order_onward pool e x.cell.entry x.above }
 
+  plain_at : (k : ℕ) (d : Cell PlainEntry) (some : Cell NumberedEntry) → k < length after → get_or (plain_cells pool after) k d ≡ plain_cell pool (get_or after k some)
+  plain_at k d some lt =
+      get_or_default (plain_cells pool after) k d (plain_cell pool some) (omega (arith, lt, length-map after (plain_cell pool))) ∙ get_or-map (plain_cell pool) after k some
+
   number_at : (k : ℕ) (d : Cell PlainEntry) (some : Cell NumberedEntry) → k < length after → cell_number (get_or (plain_cells pool after) k d) ≡ cell_number (get_or after k some)
-  number_at k d some lt =
-      ap cell_number (get_or_default (plain_cells pool after) k d (plain_cell pool some) (omega (arith, lt, length-map after (plain_cell pool))) ∙ get_or-map (plain_cell pool) after k some)
+  number_at k d some lt = ap cell_number (plain_at k d some lt)
 
   pub joined_plain : IsJoined IsSoundEntry AreAlikeEntries IsBelow entry_values (plain_cells pool cells) point (plain_entry pool entry) (plain_cells pool after)
   joined_plain = record {
     order = record {
+      told = λ k d lt.
+          (let long = length-map after (plain_cell pool) in
+          let some : Cell NumberedEntry = record { point = d.point; number = 0; entry = entry; waiting = false } in
+          let below : k < length after = omega (arith, lt, long) in
+          subst (λ (x : Cell PlainEntry). x.number ≡ cell_number x) (sym (plain_at k d some below)) (h.order.told k some below));
       before = λ i j d lt known_place.
           (let long = length-map after (plain_cell pool) in
-          let some : Cell NumberedEntry = record { point = d.point; entry = entry; waiting = false } in
+          let some : Cell NumberedEntry = record { point = d.point; number = 0; entry = entry; waiting = false } in
           let first = number_at i d some (omega (arith, lt, known_place, long)) in
           let second = number_at j d some (omega (arith, known_place, long)) in
           let numbered = h.order.before i j some lt (omega (arith, known_place, long)) in

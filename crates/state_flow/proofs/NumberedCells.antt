@@ -22,6 +22,10 @@ plain_at pool cells k d some lt = get_or-map (plain_cell pool) cells k some d lt
 
 pub numbered_order : (pool : List Values) (cells : List (Cell NumberedEntry)) → AreInOrder (plain_cells pool cells) → AreInOrder cells
 numbered_order pool cells order = record {
+  told = λ k d lt.
+      (let long = length-map cells (plain_cell pool) in
+      let here = plain_at pool cells k (plain_cell pool d) d lt in
+      sym (ap (λ (x : Cell PlainEntry). x.number) here) ∙ order.told k (plain_cell pool d) (omega (arith, lt, long)) ∙ ap cell_number here);
   before = λ i j d lt known.
       (let first = ap cell_number (plain_at pool cells i (plain_cell pool d) d (omega (arith, lt, known))) in
       let second = ap cell_number (plain_at pool cells j (plain_cell pool d) d known) in
@@ -35,14 +39,14 @@ pub waits_plain : (pool : List Values) (cells : List (Cell NumberedEntry)) (plac
 waits_plain pool cells place h = record {
   known = (let long = length-map cells (plain_cell pool) in omega (arith, h.known, long));
   waits = λ d.
-      (let some : Cell NumberedEntry = record { point = d.point; entry = record { sets = [] }; waiting = false } in
+      (let some : Cell NumberedEntry = record { point = d.point; number = 0; entry = record { sets = [] }; waiting = false } in
       ap (λ (x : Cell PlainEntry). x.waiting) (plain_at pool cells place d some h.known) ∙ h.waits some);
 }
 
 pub none_waits_plain : (pool : List Values) (cells : List (Cell NumberedEntry)) (from : ℕ) → NoneWaitsFrom cells from → NoneWaitsFrom (plain_cells pool cells) from
 none_waits_plain pool cells from h k d le lt =
     let long = length-map cells (plain_cell pool) in
-    let some : Cell NumberedEntry = record { point = d.point; entry = record { sets = [] }; waiting = false } in
+    let some : Cell NumberedEntry = record { point = d.point; number = 0; entry = record { sets = [] }; waiting = false } in
     let below : k < length cells = omega (arith, lt, long) in
     ap (λ (x : Cell PlainEntry). x.waiting) (plain_at pool cells k d some below) ∙ h k some le below
 
@@ -71,7 +75,7 @@ module _ (app : App) (pool : List Values) (cells : List (Cell NumberedEntry)) (p
 cells_by : (pool after : List Values) (cells : List (Cell NumberedEntry)) → IsLonger pool after → ((cell : Cell NumberedEntry) → Among cell cells → AreNumbersOf pool cell.entry) → plain_cells after cells ≡ plain_cells pool cells
 cells_by pool after [] longer known = refl
 cells_by pool after (x ∷ xs) longer known =
-    ap₂ (λ (e : PlainEntry) (rest : List (Cell PlainEntry)). record { point = x.point; entry = e; waiting = x.waiting } ∷ rest) (same_view pool after x.entry longer (known x (inl refl)))
+    ap₂ (λ (e : PlainEntry) (rest : List (Cell PlainEntry)). record { point = x.point; number = x.number; entry = e; waiting = x.waiting } ∷ rest) (same_view pool after x.entry longer (known x (inl refl)))
     (cells_by pool after xs longer (λ cell m. known cell (inr m)))
 
 pub cells_same : (pool after : List Values) (cells : List (Cell NumberedEntry)) → IsLonger pool after → AreCellsOf pool cells → plain_cells after cells ≡ plain_cells pool cells

@@ -127,6 +127,7 @@ module _ (pool : List Values) (cell after : Cell NumberedEntry) (entry : Numbere
   pub raised_plain : IsRaised IsSoundEntry AreAlikeEntries IsBelow entry_values (plain_cell pool cell) (plain_entry pool entry) (plain_cell pool after)
   raised_plain = record {
     point = h.point;
+    number = h.number;
     element = plain_sound pool after.entry all raised_known h.element.few;
     alike = same_domains pool 0 cell.entry.sets ∙ h.alike ∙ sym (same_domains pool 0 after.entry.sets);
     grows = order_onward pool cell.entry after.entry h.grows;

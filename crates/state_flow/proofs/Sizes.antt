@@ -32,5 +32,5 @@ module _ (app : App) where
   -- a count of 64 bits holds the number of values of a written table
   pub values_fit : HasMasks app → (table : PlainTable) → IsWritten app table → value_count table < 2 ^ 64
   values_fit masks table written =
-      let product = mul-le-mul {n₁ = points app} {m₁ = height app} {n₂ = 304130} {m₂ = 58610845576256} points_few (height_most app masks) in
+      let product = mul-le-mul {n₁ = points app} {m₁ = height app} {n₂ = 304130} {m₂ = 58668307712832} points_few (height_most app masks) in
       omega (arith, values_few app table written masks, product)

@@ -7,8 +7,9 @@ module _ {E : Type 0} where
   abbrev pub cell_number : Cell E → ℕ
   cell_number cell = point_number cell.point
 
-  -- in the order of their points, none twice
+  -- in the order of their points, none twice, and each tells its point's number
   pub record AreInOrder (cells : List (Cell E)) : Type 0 where
+    pub told : (k : ℕ) (d : Cell E) → k < length cells → (slice_index_or cells k d).number ≡ cell_number (slice_index_or cells k d)
     pub before : (i j : ℕ) (d : Cell E) → i < j → j < length cells → cell_number (slice_index_or cells i d) < cell_number (slice_index_or cells j d)
 
   -- a cell with this number stands there
@@ -83,6 +84,7 @@ module _ {E : Type 0} (IsElement : E → Type 0) (AreAlike IsLower : E → E →
   -- An entry was joined to the cell's. The cell waits where it grew.
   pub record IsRaised (cell : Cell E) (entry : E) (after : Cell E) : Type 0 where
     pub point : after.point ≡ cell.point
+    pub number : after.number ≡ cell.number
     pub element : IsElement after.entry
     pub alike : AreAlike cell.entry after.entry
     pub grows : IsLower cell.entry after.entry

@@ -1,11 +1,11 @@
 -- The rows of exits, by number, and their joins to cells.
-use Rattle.std.specs.{Prelude.{ℕ, List, map, Contains}, List.{flat_map}}
+use Rattle.std.specs.{Prelude.{List, map, Contains}, List.{flat_map}}
 use Rattle.osek_standard.specs.declared.{app.App.{App}, point.Point.{Point}}
 use Rattle.abstract_state.specs.declared.table.TableRow.{TableRow}
 use Rattle.numbered_sets.specs.{declared.numbered_entry.NumberedEntry.{NumberedEntry}, Pools.{Values}, Views.{plain_entry}, PlainTables.{row_at}}
 use Rattle.flow_rules.specs.declared.group.{NumberEnd.{NumberEnd}, Ends.{Ends}, ExitGroup.{ExitGroup}}
 use Rattle.flow_rules.specs.declared.group.Ends.TheVariants as ends
-use Rattle.flow_rules.specs.Groups.{holding}
+use Rattle.flow_rules.specs.Groups.{with_end}
 use Rattle.state_flow.specs.declared.cells.Cell.{Cell}
 use Rattle.flow_rules.specs.Rows.{IsProperRow}
 use Rattle.state_flow.specs.{Progress.{AreJoined}, PlainCells.{plain_cells, AreCellsOf}}
@@ -14,13 +14,16 @@ use Rattle.state_flow.specs.{Progress.{AreJoined}, PlainCells.{plain_cells, AreC
 abbrev pub rows_at : List Values → NumberedEntry → List Point → List TableRow
 rows_at pool entry points = map (λ (p : Point). row_at p (plain_entry pool entry)) points
 
--- those with some numbers alone of component c, each at its point
-abbrev pub rows_with : List Values → NumberedEntry → ℕ → List NumberEnd → List TableRow
-rows_with pool entry c xs = map (λ (x : NumberEnd). row_at x.target (plain_entry pool (holding entry c x.numbers))) xs
+-- the row of an end: with its numbers, at its point
+abbrev pub end_row : List Values → NumberedEntry → NumberEnd → TableRow
+end_row pool entry x = row_at x.target (plain_entry pool (with_end entry x))
+
+abbrev pub rows_with : List Values → NumberedEntry → List NumberEnd → List TableRow
+rows_with pool entry xs = map (end_row pool entry) xs
 
 abbrev pub rows_by : List Values → NumberedEntry → Ends → List TableRow
 rows_by pool entry (ends.At points) = rows_at pool entry points
-rows_by pool entry (ends.With c xs) = rows_with pool entry c xs
+rows_by pool entry (ends.With xs) = rows_with pool entry xs
 
 -- the rows of all exits of groups
 abbrev pub all_rows : List Values → List ExitGroup → List TableRow

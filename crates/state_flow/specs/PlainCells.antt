@@ -5,7 +5,7 @@ use Rattle.numbered_sets.specs.{declared.{numbered_entry.NumberedEntry.{Numbered
 use Rattle.state_flow.specs.declared.cells.Cell.{Cell}
 
 abbrev pub plain_cell : List Values → Cell NumberedEntry → Cell PlainEntry
-plain_cell pool cell = record { point = cell.point; entry = plain_entry pool cell.entry; waiting = cell.waiting }
+plain_cell pool cell = record { point = cell.point; number = cell.number; entry = plain_entry pool cell.entry; waiting = cell.waiting }
 
 abbrev pub plain_cells : List Values → List (Cell NumberedEntry) → List (Cell PlainEntry)
 plain_cells pool cells = map (plain_cell pool) cells

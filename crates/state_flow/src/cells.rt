@@ -12,6 +12,8 @@ use std::alloc::Global;
 #[derive(Drop)]
 pub struct Cell<E> {
     pub point: Point,
+    /// The point's number, by which cells are looked for.
+    pub number: u32,
     pub entry: E,
     /// It is to be evaluated: it is new, or its entry grew since it was.
     pub waiting: bool,
@@ -43,8 +45,8 @@ fn place_of<E>(cells: &[Cell<E>], point: Point) -> Result<usize, usize>
     ensures gap { IfErr result (IsGapFor cells.now (point_number point)) }
 {
     let number = point.number();
-    let place = cells.partition_point(|cell| cell.point.number() < number);
-    if place < cells.len() && cells[place].point.number() == number {
+    let place = cells.partition_point(|cell| cell.number < number);
+    if place < cells.len() && cells[place].number == number {
         Ok(place)
     } else {
         Err(place)
@@ -57,7 +59,7 @@ pub fn place_behind<E>(cells: &[Cell<E>], point: Point) -> usize
     ensures { IsBehind cells.now (point_number point) result }
 {
     let number = point.number();
-    cells.partition_point(|cell| cell.point.number() <= number)
+    cells.partition_point(|cell| cell.number <= number)
 }
 
 fn waiting_from<E>(cells: &[Cell<E>], from: usize) -> Option<usize>
@@ -102,6 +104,7 @@ pub fn join<E: Lattice + Drop>(
                 gap,
                 Cell {
                     point,
+                    number: point.number(),
                     entry,
                     waiting: true,
                 },

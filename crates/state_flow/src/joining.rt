@@ -1,8 +1,8 @@
 //! The exits of a point, joined to cells.
-ghost use Rattle.std.specs.Prelude.{◌<◌, length, Contains, OnOk};
+ghost use Rattle.std.specs.Prelude.{◌≡◌, [], ◌∷◌, Contains, OnOk};
 ghost use Rattle.numbered_sets.specs.Views.{AreNumbersOf};
-ghost use Rattle.flow_rules.specs.{declared.group.NumberEnd.{NumberEnd}, Groups.{AreNumbersThere, IsKnownGroup, AreKnownGroups}};
-ghost use Rattle.state_flow.specs.{Numbering.{AreNumberedCells}, ExitRows.{rows_at, rows_with, rows_by, all_rows, AreProperRows, AreRowsJoined}};
+ghost use Rattle.flow_rules.specs.{declared.group.NumberEnd.{NumberEnd}, Groups.{IsKnownEnd, IsKnownGroup, AreKnownGroups}, Rows.{IsProperRow}};
+ghost use Rattle.state_flow.specs.{Numbering.{AreNumberedCells}, ExitRows.{rows_at, end_row, rows_with, rows_by, all_rows, AreProperRows, AreRowsJoined}};
 
 use crate::cells::Cell;
 use crate::numbered_cells::put_in;
@@ -49,9 +49,7 @@ fn join_group(
     let entry = group.entry;
     match &ends {
         Ends::At(points) => join_at(alloc, app, points.as_slice(), &entry, pool, cells),
-        Ends::With { component, ends } => {
-            join_with(alloc, app, *component, ends.as_slice(), entry, pool, cells)
-        }
+        Ends::With(ends) => join_with(alloc, app, ends.as_slice(), entry, pool, cells),
     }
 }
 
@@ -75,27 +73,47 @@ fn join_at(
     Ok(())
 }
 
-// with the numbers of each end of a component alone, at its point
+// with the numbers of each end, at its point
 fn join_with(
     alloc: Global,
     app: &App,
-    component: usize,
     ends: &[NumberEnd],
     entry: NumberedEntry,
     pool: &Pool,
     cells: &mut Vec<Cell<NumberedEntry>>,
 ) -> Result<(), Memory>
-    requires component { component < length entry.sets }
     requires known { AreNumbersOf pool.now entry }
-    requires ends { (x : NumberEnd) → Contains ends.now x → AreNumbersThere pool.now entry component x.numbers }
-    requires proper { AreProperRows app.now (rows_with pool.now entry component ends.now) }
+    requires ends { (x : NumberEnd) → Contains ends.now x → IsKnownEnd pool.now entry x }
+    requires proper { AreProperRows app.now (rows_with pool.now entry ends.now) }
     requires cells { AreNumberedCells app.now pool.now cells.old.items }
-    ensures { OnOk result (AreRowsJoined app.now pool.now cells.old.items (rows_with pool.now entry component ends.now) cells.new.items) }
+    ensures { OnOk result (AreRowsJoined app.now pool.now cells.old.items (rows_with pool.now entry ends.now) cells.new.items) }
 {
     let mut held = entry;
     for end in ends {
-        held.sets.put(component, &end.numbers)?;
-        put_in(alloc, app, pool, cells, end.target, &held)?;
+        join_end(alloc, app, end, &mut held, pool, cells)?;
     }
+    Ok(())
+}
+
+// with the numbers of an end, at its point; the entry is what it was then
+fn join_end(
+    alloc: Global,
+    app: &App,
+    end: &NumberEnd,
+    entry: &mut NumberedEntry,
+    pool: &Pool,
+    cells: &mut Vec<Cell<NumberedEntry>>,
+) -> Result<(), Memory>
+    requires known { AreNumbersOf pool.now entry.old }
+    requires end { IsKnownEnd pool.now entry.old end.now }
+    requires proper { IsProperRow app.now (end_row pool.now entry.old end.now) }
+    requires cells { AreNumberedCells app.now pool.now cells.old.items }
+    ensures entry { OnOk result (entry.new ≡ entry.old) }
+    ensures joined { OnOk result (AreRowsJoined app.now pool.now cells.old.items (end_row pool.now entry.old end.now ∷ []) cells.new.items) }
+{
+    let own = entry.sets.set(alloc, end.component)?;
+    entry.sets.put(end.component, &end.numbers)?;
+    put_in(alloc, app, pool, cells, end.target, entry)?;
+    entry.sets.put(end.component, &own)?;
     Ok(())
 }

@@ -4,9 +4,10 @@ use Rattle.std.proofs.Common.{◌≡◌, ◌⊎◌, ℕ, suc, ◌+◌, ◌^◌, 
 use Rattle.std.specs.{Prelude.{◌==◌, if◌then◌else◌}, Int.{to_be_bytes, w16, from_be_bytes}}
 use Rattle.std.proofs.lemmas.{List.{append-nil, length-append, length-map}, Nat.{from_be_bytes-to_be_bytes_2}}
 use Rattle.osek_values.specs.declared.numbers.ResNo.{ResNo}
-use Rattle.abstract_state.specs.{declared.value.Val.{Val, TheVariants.{Suspended, Live, Waiting}}, ValueOrder.{flag_field}}
+use Rattle.abstract_state.specs.{declared.value.{Val.{Val, TheVariants.{Suspended, Live, Waiting}}, SourceVal.{SourceVal}}, ValueOrder.{flag_field}}
+use Rattle.abstract_state.specs.declared.value.SourceVal.TheVariants as source_val
 use Rattle.abstract_state.proofs.OrderLaws.{same_flag}
-use Rattle.table_codec.specs.Spelling.{resource_numbers, task_fields, field_width, field_limit, field_bytes, fields_from}
+use Rattle.table_codec.specs.Spelling.{resource_numbers, task_fields, source_numbers, field_width, field_limit, field_bytes, fields_from}
 
 pub record IsPrefix (ns ms : List ℕ) : Type 0 where
   pub more : List ℕ
@@ -70,6 +71,12 @@ same_stack (x ∷ a) (y ∷ b) e =
     the_resource : ℕ → ResNo
     the_resource n = record { 0 = n }
 
+-- a stack whose numbers begin those of another one as high is that one
+stack_alone : (a b : List ResNo) (more : List ℕ) → length b ≡ length a → resource_numbers b ≡ resource_numbers a ++ more → a ≡ b
+stack_alone a b more count rest =
+    let whole = whole_list (resource_numbers a) (resource_numbers b) more rest (length-map a (λ (q : ResNo). q.0) ∙ sym count ∙ sym (length-map b (λ (q : ResNo). q.0))) in
+    same_stack a b whole
+
 -- a value whose fields begin another's is that one
 pub val_alone : (v w : Val) (more : List ℕ) → task_fields w ≡ task_fields v ++ more → v ≡ w
 val_alone Suspended Suspended more e = refl
@@ -83,8 +90,7 @@ val_alone (Live x) (Live y) more e =
     let inside = same_flag x.inside y.inside (sym flag) in
     let count : length y.held ≡ length x.held = cc in
     let rest : resource_numbers y.held ≡ resource_numbers x.held ++ more = cc in
-    let whole = whole_list (resource_numbers x.held) (resource_numbers y.held) more rest (length-map x.held (λ (q : ResNo). q.0) ∙ sym count ∙ sym (length-map y.held (λ (q : ResNo). q.0))) in
-    let held : x.held ≡ y.held = same_stack x.held y.held whole in
+    let held = stack_alone x.held y.held more count rest in
     λ i. Live (record { block = record { 0 = sym block i }; further = sym further i; inside = inside i; held = held i })
 val_alone (Live x) (Waiting c) more e = absurd cc
 val_alone (Waiting b) Suspended more e = absurd cc
@@ -93,6 +99,17 @@ val_alone (Waiting b) (Waiting c) more e = (let same : b.0 ≡ c.0 = cc in ap wa
   where
     waiting_at : ℕ → Val
     waiting_at n = Waiting (record { 0 = n })
+
+pub source_alone : (v w : SourceVal) (more : List ℕ) → source_numbers w ≡ source_numbers v ++ more → v ≡ w
+source_alone source_val.Out source_val.Out more e = refl
+source_alone source_val.Out (source_val.In y) more e = absurd cc
+source_alone (source_val.In x) source_val.Out more e = absurd cc
+source_alone (source_val.In x) (source_val.In y) more e =
+    let block : y.block.0 ≡ x.block.0 = cc in
+    let count : length y.held ≡ length x.held = cc in
+    let rest : resource_numbers y.held ≡ resource_numbers x.held ++ more = cc in
+    let held = stack_alone x.held y.held more count rest in
+    λ i. source_val.In (record { block = record { 0 = sym block i }; held = held i })
 
 -- ---- fields behind fields
 

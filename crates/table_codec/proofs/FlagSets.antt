@@ -4,7 +4,7 @@ use Rattle.std.specs.{Prelude.{sum_by}, List.{AllByRecursion, Sorted.{IsStrictly
 use Rattle.std.proofs.lemmas.List.{Elements.{recursion_from_All}, Sums.{sum_by-cons}}
 use Rattle.osek_values.specs.declared.numbers.{TaskNo.{TaskNo}, EventNo.{EventNo}, AlarmNo.{AlarmNo}}
 use Rattle.osek_standard.specs.declared.{app.App.{App}, point.Point.{Point}}
-use Rattle.abstract_state.specs.declared.value.PartValue.{PartValue, TheVariants.{OfTask, OfEvent, OfAlarm}}
+use Rattle.abstract_state.specs.declared.value.PartValue.{PartValue, TheVariants.{OfTask, OfEvent, OfAlarm, OfSource}}
 use Rattle.abstract_state.specs.declared.value.Component.TheVariants as component
 use Rattle.abstract_state.specs.{ValueOrder.{part_order, IsAscending}, Components.{IsPart}}
 use Rattle.table_codec.specs.{declared.fault.Fault.{Fault}, Spelling.{flags, flag_number}, Faults.{IsFlagsFault, AreGoodValues}}
@@ -82,12 +82,14 @@ module _ (app : App) (p : Point) where
   events t j (OfTask v ∷ vs) all = absurd all.0
   events t j (OfEvent b ∷ vs) all = ((b, refl), events t j vs all.1)
   events t j (OfAlarm b ∷ vs) all = absurd all.0
+  events t j (OfSource v ∷ vs) all = absurd all.0
 
   alarms : (a : AlarmNo) (vs : List PartValue) → AllByRecursion (IsPart app p (component.Alarm a)) vs → AllByRecursion (λ (v : PartValue). (b : Bool) × (v ≡ OfAlarm b)) vs
   alarms a [] all = tt
   alarms a (OfTask v ∷ vs) all = absurd all.0
   alarms a (OfEvent b ∷ vs) all = absurd all.0
   alarms a (OfAlarm b ∷ vs) all = ((b, refl), alarms a vs all.1)
+  alarms a (OfSource v ∷ vs) all = absurd all.0
 
   pub event_set : (t : TaskNo) (j : EventNo) (vs : List PartValue) → AreGoodValues app p (component.Event t j) vs → IsFlagSet OfEvent vs (sum_by flag_number vs)
   event_set t j vs h = flag_set OfEvent event_ones (λ b. refl) vs (events t j vs (recursion_from_All (IsPart app p (component.Event t j)) vs h.allowed)) h.ascending h.some

@@ -20,9 +20,13 @@ pub mod Sequences
 pub mod SetFaults
 pub mod ShapeLaws
 pub mod ShortTables
+pub mod SomeSets
 pub mod SomeShapes
+pub mod SomeSourceValues
 pub mod SomeTables
 pub mod SomeValues
+pub mod SourceReading
+pub mod SourceShapeLaws
 pub mod StackEnds
 pub mod StackReads
 pub mod TableFaults

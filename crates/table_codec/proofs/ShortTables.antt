@@ -11,7 +11,7 @@ use Rattle.abstract_state.specs.declared.value.Component.TheVariants as componen
 use Rattle.abstract_state.specs.{Components.{components, component_at}, Written.{IsWritten}}
 use Rattle.abstract_state.proofs.EqualityLaws.{point_itself}
 use Rattle.numbered_sets.proofs.WrittenRows.{row_there}
-use Rattle.table_codec.specs.Spelling.{flag_number, value_bytes, set_bytes, sets_bytes, members_of, entry_bytes, rows_bytes, point_bytes, magic, spelling, IsSpellable}
+use Rattle.table_codec.specs.Spelling.{flag_number, value_bytes, listed, set_bytes, sets_bytes, members_of, entry_bytes, rows_bytes, point_bytes, magic, spelling, IsSpellable}
 use Rattle.table_codec.specs.{Faults.{AreGoodValues}, Writing.{CanBeWritten}}
 use Rattle.table_codec.proofs.{EntryFaults.{more_sets, entry_size}, FlagSets.{IsFlagSet, low, high, both, event_set, alarm_set}, Merging.{row_number, Up, filter_other, filter_own, other_number_too}, PointOrder.{point_among}}
 use Rattle.table_codec.proofs.{WriteLaws.{bytes_many, good_writable}, WrittenTables.{row_values, rows_up}}
@@ -30,13 +30,15 @@ flags_few of vs n (low e a) = omega (arith, ap (λ (l : List PartValue). length 
 flags_few of vs n (high e a) = omega (arith, ap (λ (l : List PartValue). length l) e)
 flags_few of vs n (both e a) = omega (arith, ap (λ (l : List PartValue). length l) e)
 
+listed_few : (vs : List PartValue) → All CanBeWritten vs → length (listed vs) < 2 ^ 32 → HasFew vs
+listed_few vs all short = (let many = bytes_many vs (recursion_from_All CanBeWritten vs all) in omega (arith, many, short, length-append (to_be_bytes w32 (length vs)) (flat_map value_bytes vs)))
+
 module _ (app : App) (p : Point) where
   set_few : (k : Component) (vs : List PartValue) → AreGoodValues app p k vs → length (set_bytes k vs) < 2 ^ 32 → HasFew vs
-  set_few (component.Task t) vs h short =
-      let many = bytes_many vs (recursion_from_All CanBeWritten vs (good_writable app p (component.Task t) vs h)) in
-      omega (arith, many, short, length-append (to_be_bytes w32 (length vs)) (flat_map value_bytes vs))
+  set_few (component.Task t) vs h short = listed_few vs (good_writable app p (component.Task t) vs h) short
   set_few (component.Event t j) vs h short = flags_few OfEvent vs (sum_by flag_number vs) (event_set app p t j vs h)
   set_few (component.Alarm a) vs h short = flags_few OfAlarm vs (sum_by flag_number vs) (alarm_set app p a vs h)
+  set_few (component.Source k) vs h short = listed_few vs (good_writable app p (component.Source k) vs h) short
 
   sets_few : (done ks : List Component) (n : ℕ) (sets : List (List PartValue)) → components app ≡ done ++ ks → n ≡ length done → ((c : ℕ) (vs : List PartValue) → slice_get sets c ≡ Some vs → AreGoodValues app p (component_at app (n + c)) vs)
       → length sets ≤ length ks → length (sets_bytes ks sets) < 2 ^ 32 → AllByRecursion HasFew sets

@@ -1,13 +1,14 @@
--- Of each task at each point there is a shape.
+-- Of each task at each point there is a shape, and of each source.
 use Rattle.std.proofs.Common.{◌≡◌, ◌⊎◌, ℕ, ◌+◌, ◌<◌, true, false, not, length, refl, subst, inl, inr, IsTrue, None, Some}
-use Rattle.osek_values.specs.{declared.numbers.{TaskNo.{TaskNo}, BlockNo.{BlockNo}}, Numbers.{block_no}}
+use Rattle.osek_values.specs.{declared.numbers.{TaskNo.{TaskNo}, SourceNo.{SourceNo}, BlockNo.{BlockNo}}, Numbers.{block_no}}
 use Rattle.osek_standard.specs.declared.{app.App.{App}, point.Point.{Point}, block.Kind.{Kind}}
 use Rattle.osek_standard.specs.declared.point.Point.TheVariants as point
 use Rattle.osek_standard.specs.declared.block.Kind.TheVariants as kind
 use Rattle.image_model.specs.CallNames as call
-use Rattle.osek_standard.specs.{Apps.{the_task, the_block, is_extended}, Well.{IsOwn, IsWaitEvent, IsWaitingAt}}
+use Rattle.osek_standard.specs.{Apps.{the_task, the_block, is_extended, source_count, routine_start, routine_count}, Well.{IsOwn, IsOfRoutine, IsWaitEvent, IsWaitingAt}}
 use Rattle.osek_standard.proofs.WellLaws.{own_known}
-use Rattle.table_codec.specs.{declared.shape.Shape.{Shape}, Shapes.{IsShape, is_over, RunsAt, RunsNowhere}}
+use Rattle.table_codec.specs.{declared.{shape.Shape.{Shape}, source_shape.SourceShape.{SourceShape}}, Shapes.{IsShape, is_over, RunsAt, RunsNowhere}, SourceShapes.{IsSourceShape}}
+use Rattle.table_codec.proofs.SourceShapeLaws.{whole_shape, block_shape, outside, at_its_block, beside}
 use Rattle.table_codec.proofs.{Decisions.{Decided, decide_both, decide_less, decide_at_most, decide_true, some_below}, ShapeLaws.{running_shape, running, elsewhere_shape, elsewhere}}
 
 decide_wait : (k : Kind) → Decided (IsWaitEvent k)
@@ -50,3 +51,19 @@ module _ (app : App) (t : TaskNo) (known : t.0 < length app.tasks) where
       by_place (inl at) waits = (running_shape app t known p at.0, running app t known p at.0 at.1, refl, refl)
       by_place (inr none) (inl waits) = (elsewhere_shape app t known p (not (is_over p t.0)) true, elsewhere app t known p true none (λ e. waits, λ h. refl), refl, refl)
       by_place (inr none) (inr bars) = (elsewhere_shape app t known p (not (is_over p t.0)) false, elsewhere app t known p false none (λ e. absurd (cc), λ h. absurd (bars h)), refl, refl)
+
+module _ (app : App) (k : SourceNo) (known : k.0 < source_count app) where
+  abbrev SourceShapeAt : Point → Type 0
+  SourceShapeAt p = (x : SourceShape) × IsSourceShape app x × (x.point ≡ p) × (x.source ≡ k)
+
+  decide_of_routine : (b : ℕ) → Decided (IsOfRoutine app k.0 b)
+  decide_of_routine b = decide_both (decide_at_most (routine_start app k.0).0 b) (decide_less b ((routine_start app k.0).0 + routine_count app k.0))
+
+  pub some_source_shape : (p : Point) → SourceShapeAt p
+  some_source_shape point.Halted = (whole_shape app k known point.Halted false, outside app k known point.Halted refl, refl, refl)
+  some_source_shape point.Idle = (whole_shape app k known point.Idle false, outside app k known point.Idle refl, refl, refl)
+  some_source_shape (point.Task b) = (whole_shape app k known (point.Task b) false, outside app k known (point.Task b) refl, refl, refl)
+  some_source_shape (point.Routine b over) = elim (decide_of_routine b.0) [
+    | inl own ↦ (block_shape app k known (point.Routine b over) b, at_its_block app k known b over own, refl, refl)
+    | inr other ↦ (whole_shape app k known (point.Routine b over) true, beside app k known b over other, refl, refl)
+  ]

@@ -11,7 +11,7 @@ use Rattle.numbered_sets.specs.PlainTables.{row_at}
 use Rattle.table_codec.specs.{declared.fault.{Fault.{Fault}, TableFault.{TableFault}, TableRule.TheVariants.{K1, K2, K3, K5}}, Spelling.{magic, set_bytes, entry_bytes, spelling, IsSpellable}}
 use Rattle.table_codec.specs.Faults.{fault_at, IsSetFault, IsEntryFault, IsPointFault, IsRowFault, IsTableFault, bad_magic, magic_cut, other_magic, bad_row, IsFirstFault, located}
 use Rattle.table_codec.specs.{Sets.{IsReadEntry}, Rows.{IsReadRow, IsReadTable}}
-use Rattle.table_codec.proofs.{Decisions.{Decided, decide_bytes, AreBytes, bytes_behind}, SomeValues.{SetFound, set_found}}
+use Rattle.table_codec.proofs.{Decisions.{Decided, decide_bytes, AreBytes, bytes_behind}, SomeSets.{SetFound, set_found}}
 use Rattle.table_codec.proofs.{ReadSoFar.{AreSetsSoFar, no_sets, next_set, members}, TableReads.{behind_fault, spelled_whole}, WrittenTables.{point_at}}
 use Rattle.table_codec.proofs.RowsSoFar.{AreRowsSoFar, absent_row, present_row, bad_row as row_fault, all_rows}
 

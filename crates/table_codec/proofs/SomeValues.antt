@@ -1,21 +1,19 @@
--- Bytes begin with a value of a task or have a value's fault, and likewise of a set.
-use Rattle.std.proofs.Common.{◌≡◌, ◌⊎◌, ℕ, zero, suc, ◌+◌, ◌^◌, ◌<◌, ◌≤◌, Bool, true, false, List, [], ◌∷◌, ◌++◌, length, refl, sym, ap, subst, ◌∙◌, inl, inr, arith, append_assoc, IsTrue}
-use Rattle.std.specs.{Prelude.{◌==◌, ◌||◌, not}, Int.{to_be_bytes, w16, w32}, List.{flat_map}}
-use Rattle.std.proofs.lemmas.{Bool.{cases_lt, cases_Bool}, List.{length_push}}
-use Rattle.osek_values.specs.{declared.numbers.{TaskNo.{TaskNo}, BlockNo.{BlockNo}, ResNo.{ResNo}}, Numbers.{block_no, res_no}}
+-- Bytes begin with a value of a task, or have a value's fault.
+use Rattle.std.proofs.Common.{◌≡◌, ◌⊎◌, ℕ, zero, suc, ◌+◌, ◌<◌, ◌≤◌, Bool, true, false, List, [], ◌∷◌, ◌++◌, length, refl, sym, ap, subst, inl, inr, arith, IsTrue}
+use Rattle.std.specs.{Prelude.{◌==◌, ◌||◌, not}, Int.{to_be_bytes, w16}}
+use Rattle.std.proofs.lemmas.Bool.{cases_Bool}
+use Rattle.osek_values.specs.{declared.numbers.{BlockNo.{BlockNo}, ResNo.{ResNo}}, Numbers.{block_no, res_no}}
 use Rattle.osek_standard.specs.{declared.{app.App.{App}, point.Point.{Point}}, Counts.{takable_count}, TaskStates.{holds}, Validity.{IsAmong, is_internal}, Well.{IsStack, IsWaitingAt}}
 use Rattle.osek_standard.proofs.StackLaws.{IsTakable, push_stack}
-use Rattle.abstract_state.specs.declared.value.{Val.TheVariants.{Suspended, Live, Waiting}, Component.{Component}, PartValue.{PartValue, TheVariants.{OfTask, OfEvent, OfAlarm}}}
-use Rattle.abstract_state.specs.declared.value.Component.TheVariants as component
-use Rattle.abstract_state.specs.{declared.table.ValueSet.{ValueSet}, ValueOrder.{flag_field, IsAscending}, Components.{live_val, IsComponent}, Domains.{domain_of}}
-use Rattle.table_codec.specs.{declared.{fault.{Fault.{Fault}, TableRule.TheVariants.{K1, K3, K4}}, shape.Shape.{Shape}}, Spelling.{value_bytes}}
-use Rattle.table_codec.specs.Faults.{fault_at, IsValueFault, IsNextFault, bad_value, not_above, IsListedFault, bad_count, count_cut, count_none, bad_list, IsFlagsFault, IsSetFault}
-use Rattle.table_codec.specs.{Shapes.{IsFlag, IsShape, shaped}, Values.{IsTag, IsReadValue, IsReadStack, IsStackFault}, Sets.{IsFlagNumber, flagged, IsReadList, IsReadSet}}
-use Rattle.table_codec.proofs.Decisions.{Decided, decide_less, decide_at_most, decide_both, decide_true, decide_ascending, AreBytes, bytes_behind, long_word, IsField, FieldFound, word_found, byte_found}
-use Rattle.table_codec.proofs.{StackEnds.{stack_last}, StackReads.{IsStackSoFar, none_read, one_read, bad_resource, stack_read}, SomeShapes.{decide_waiting, some_shape}, FlagReads.{event_read, alarm_read}}
+use Rattle.abstract_state.specs.declared.value.{Val.TheVariants.{Suspended, Live, Waiting}, Component.{Component}, PartValue.{PartValue, TheVariants.{OfTask}}}
+use Rattle.abstract_state.specs.{ValueOrder.{flag_field}, Components.{live_val}}
+use Rattle.table_codec.specs.declared.{fault.Fault.{Fault}, shape.Shape.{Shape}}
+use Rattle.table_codec.specs.Faults.{IsValueFault}
+use Rattle.table_codec.specs.{Shapes.{IsFlag, IsShape, shaped}, Values.{IsTag, IsReadValue, IsReadStack, IsStackFault}}
+use Rattle.table_codec.proofs.Decisions.{Decided, decide_less, decide_at_most, decide_both, decide_true, AreBytes, IsField, FieldFound, word_found, byte_found}
+use Rattle.table_codec.proofs.{StackEnds.{stack_last}, StackReads.{IsStackSoFar, none_read, one_read, bad_resource, stack_read}, SomeShapes.{decide_waiting}}
 use Rattle.table_codec.proofs.ShapeLaws.{flag_read}
 use Rattle.table_codec.proofs.ValueReading.{further_next, flag_next, size_next, tag_fault, block_fault, further_fault, inside_fault, size_fault, resource_fault, live_read, waiting_fault}
-use Rattle.table_codec.proofs.ReadSoFar.{AreValuesSoFar, no_values, next_value}
 
 -- ---- a stack
 
@@ -128,87 +126,4 @@ module _ (app : App) (x : Shape) (s : IsShape app x) where
   value_found bytes all = elim (byte_found (IsTag x) decide_tag 0 refl bytes all) [
     | inl n ↦ subst Found (sym n.are) (by_tag n.number n.rest n.may n.all)
     | inr bad ↦ inr (bad.0, tag_fault app x s bytes bad.0 bad.1)
-  ]
-
--- ---- the values of a task
-
-abbrev pub ListFound : App → Point → Component → List ℕ → Type 0
-ListFound app p k bytes = ((vs : List PartValue) × (rest : List ℕ) × IsReadList app p k bytes rest vs) ⊎ ((f : Fault) × IsListedFault app p k bytes f)
-
-module _ (app : App) (x : Shape) (s : IsShape app x) (bytes : List ℕ) (count : ℕ) (some : 0 < count) (fits : count < 2 ^ 32) where
-  values_from : (left : ℕ) (vs : List PartValue) (rest : List ℕ) → AreValuesSoFar app x.point (shaped x) count bytes vs rest → count ≡ length vs + left → AreBytes rest → ListFound app x.point (shaped x) bytes
-  values_from zero vs rest h e all =
-      let whole : length vs ≡ count = omega (arith, e) in
-      inl (
-        vs,
-        rest,
-        record {
-          good = record { values = record { some = omega (arith, some, whole); allowed = h.allowed; ascending = h.ascending }; few = omega (arith, fits, whole) };
-          are = h.are ∙ ap (λ (n : ℕ). to_be_bytes w32 n ++ (flat_map value_bytes vs ++ rest)) (sym whole) ∙ sym (append_assoc (to_be_bytes w32 (length vs)) (flat_map value_bytes vs) rest);
-        },
-      )
-  values_from (suc left) vs rest h e all = by_next (value_found app x s rest all) (λ more after k d l. values_from left more after k d l)
-    where
-      Goes : Type 0
-      Goes = (more : List PartValue) (after : List ℕ) → AreValuesSoFar app x.point (shaped x) count bytes more after → count ≡ length more + left → AreBytes after → ListFound app x.point (shaped x) bytes
-
-      bad : (f : Fault) → IsNextFault app x.point (shaped x) vs rest f → ListFound app x.point (shaped x) bytes
-      bad f next = inr (f, bad_list (record { count = count; values = vs; rest = rest; few = omega (arith, e); fits = fits; allowed = h.allowed; ascending = h.ascending; are = h.are; next = next }))
-
-      by_order : (v : PartValue) (after : List ℕ) → IsReadValue app x.point (shaped x) rest after v → Decided (IsAscending (vs ++ v ∷ [])) → Goes → ListFound app x.point (shaped x) bytes
-      by_order v after read (inl above) goes =
-          goes (vs ++ v ∷ []) after (next_value app x.point (shaped x) count bytes vs rest after v h (record { allowed = read.allowed; above = above; are = read.are })) (omega (arith, e, length_push vs v))
-          (bytes_behind rest (value_bytes v) after read.are all)
-      by_order v after read (inr bars) goes = bad (fault_at K4 rest) (not_above v after read.allowed read.are bars refl)
-
-      by_next : ValueFound app x.point (shaped x) rest → Goes → ListFound app x.point (shaped x) bytes
-      by_next (inl found) goes = by_order found.0 found.1 found.2 (decide_ascending (vs ++ found.0 ∷ [])) goes
-      by_next (inr fault) goes = bad fault.0 (bad_value fault.1)
-
-module _ (app : App) (x : Shape) (s : IsShape app x) where
-  by_count : (bytes : List ℕ) (n : ℕ) (rest : List ℕ) → n < 2 ^ 32 → bytes ≡ to_be_bytes w32 n ++ rest → AreBytes rest → ListFound app x.point (shaped x) bytes
-  by_count bytes zero rest fits e all = inr (fault_at K3 bytes, bad_count (count_none rest e refl))
-  by_count bytes (suc n) rest fits e all = values_from app x s bytes (suc n) (omega arith) fits (suc n) [] rest (no_values app x.point (shaped x) (suc n) bytes rest e) (omega arith) all
-
-  list_of_shape : (bytes : List ℕ) → AreBytes bytes → ListFound app x.point (shaped x) bytes
-  list_of_shape [] all = inr (fault_at K1 [], bad_count (count_cut (omega arith) refl))
-  list_of_shape (a ∷ []) all = inr (fault_at K1 (a ∷ []), bad_count (count_cut (omega arith) refl))
-  list_of_shape (a ∷ b ∷ []) all = inr (fault_at K1 (a ∷ b ∷ []), bad_count (count_cut (omega arith) refl))
-  list_of_shape (a ∷ b ∷ c ∷ []) all = inr (fault_at K1 (a ∷ b ∷ c ∷ []), bad_count (count_cut (omega arith) refl))
-  list_of_shape (a ∷ b ∷ c ∷ d ∷ rest) all =
-      let n = long_word a b c d (all 0) (all 1) (all 2) (all 3) in
-      by_count (a ∷ b ∷ c ∷ d ∷ rest) n.0 rest n.1 (ap (λ (l : List ℕ). l ++ rest) (sym n.2)) (λ i. all (suc (suc (suc (suc i)))))
-
-list_found : (app : App) (p : Point) (t : TaskNo) → t.0 < length app.tasks → (bytes : List ℕ) → AreBytes bytes → ListFound app p (component.Task t) bytes
-list_found app p t known bytes all =
-    let x = some_shape app t known p in
-    subst (λ (q : Point). ListFound app q (component.Task t) bytes) x.2 (subst (λ (u : TaskNo). ListFound app x.0.point (component.Task u) bytes) x.3 (list_of_shape app x.0 x.1 bytes all))
-
--- ---- a set
-
--- a byte of flags
-flags_found : (bytes : List ℕ) → ((n : ℕ) × (rest : List ℕ) × IsFlagNumber n × (bytes ≡ n ∷ rest)) ⊎ ((f : Fault) × IsFlagsFault bytes f)
-flags_found [] = inr (fault_at K1 [], refl)
-flags_found (zero ∷ rest) = inr (fault_at K3 (zero ∷ rest), (inl refl, refl))
-flags_found (suc n ∷ rest) = elim (cases_lt 3 (suc n)) [
-  | inl more ↦ inr (fault_at K3 (suc n ∷ rest), (inr more, refl))
-  | inr few ↦ inl (suc n, rest, (omega arith, few), refl)
-]
-
-abbrev pub SetFound : App → Point → Component → List ℕ → Type 0
-SetFound app p k bytes = ((set : ValueSet) × (rest : List ℕ) × IsReadSet app p k bytes rest set) ⊎ ((f : Fault) × IsSetFault app p k bytes f)
-
-module _ (app : App) (p : Point) where
-  pub set_found : (k : Component) → IsComponent app k → (bytes : List ℕ) → AreBytes bytes → SetFound app p k bytes
-  set_found (component.Task t) known bytes all = elim (list_found app p t known bytes all) [
-    | inl h ↦ inl (record { domain = domain_of app (component.Task t); members = h.0 }, h.1, record { good = h.2.good; domain = refl; are = h.2.are })
-    | inr bad ↦ inr bad
-  ]
-  set_found (component.Event t j) known bytes all = elim (flags_found bytes) [
-    | inl h ↦ inl (record { domain = domain_of app (component.Event t j); members = flagged OfEvent h.0 }, h.1, event_read app p h.0 bytes h.1 (flagged OfEvent h.0) h.2 h.3 t j refl)
-    | inr bad ↦ inr bad
-  ]
-  set_found (component.Alarm a) known bytes all = elim (flags_found bytes) [
-    | inl h ↦ inl (record { domain = domain_of app (component.Alarm a); members = flagged OfAlarm h.0 }, h.1, alarm_read app p h.0 bytes h.1 (flagged OfAlarm h.0) h.2 h.3 a refl)
-    | inr bad ↦ inr bad
   ]

@@ -1,16 +1,17 @@
--- A task's next value: it is read in one way, or has one fault.
+-- The next value of a task or of a source: it is read in one way, or has one fault.
 use Rattle.std.proofs.Common.{◌≡◌, ℕ, suc, ◌^◌, ◌<◌, ◌≤◌, Bool, true, false, List, [], ◌∷◌, ◌++◌, length, refl, sym, ap, subst, ◌∙◌, inl, inr, arith, append_assoc, append-nil, length-append, eqb-true}
 use Rattle.std.specs.{Prelude.{◌==◌, if◌then◌else◌}, List.{AllByRecursion}}
 use Rattle.std.proofs.lemmas.List.Elements.{recursion_from_All}
-use Rattle.osek_values.specs.declared.numbers.{TaskNo.{TaskNo}, ResNo.{ResNo}}
-use Rattle.osek_standard.specs.{declared.{app.App.{App}, point.Point.{Point}}, Apps.{no_task}, Well.{IsOwn}}
-use Rattle.osek_standard.proofs.StackLaws.{stack_few}
-use Rattle.abstract_state.specs.declared.value.{Val.{Val, TheVariants.{Suspended, Live, Waiting}}, Component.{Component}, PartValue.{PartValue, TheVariants.{OfTask, OfEvent, OfAlarm}}}
+use Rattle.osek_values.specs.declared.numbers.ResNo.{ResNo}
+use Rattle.osek_standard.specs.{declared.{app.App.{App}, point.Point.{Point}}, Apps.{no_task, source_count}, Well.{IsStack}}
+use Rattle.osek_standard.proofs.{StackLaws.{stack_few}, WellLaws.{own_known, routine_known}}
+use Rattle.abstract_state.specs.declared.value.{Val.{Val, TheVariants.{Suspended, Live, Waiting}}, SourceVal.{SourceVal}, Component.{Component}, PartValue.{PartValue, TheVariants.{OfTask, OfEvent, OfAlarm, OfSource}}}
+use Rattle.abstract_state.specs.declared.value.SourceVal.TheVariants as source_val
 use Rattle.abstract_state.specs.declared.value.Component.TheVariants as component
-use Rattle.abstract_state.specs.{ValueOrder.{flag_field, IsAscending}, Components.{IsVal, IsPart}}
-use Rattle.table_codec.specs.{declared.fault.Fault.{Fault}, Spelling.{resource_numbers, task_fields, value_fields, field_limit, field_bytes, fields_from, value_bytes}}
+use Rattle.abstract_state.specs.{ValueOrder.{flag_field, IsAscending}, Components.{IsVal, IsSourceVal, IsPart}}
+use Rattle.table_codec.specs.{declared.fault.Fault.{Fault}, Spelling.{resource_numbers, task_fields, source_numbers, value_fields, field_limit, field_bytes, fields_from, value_bytes}}
 use Rattle.table_codec.specs.{Faults.{IsFieldFault, field_cut, field_barred, Begins, IsValueFault, IsNextFault, bad_value, not_above}, Sets.{IsNextValue}}
-use Rattle.table_codec.proofs.Fields.{AreWithin, one_head, fields_meet, same_prefix, val_alone, fields_append, within_prefix, within_next, plus_none, cancel, width_is}
+use Rattle.table_codec.proofs.Fields.{AreWithin, one_head, fields_meet, same_prefix, val_alone, source_alone, fields_append, within_prefix, within_next, plus_none, cancel, width_is}
 
 -- a field has one fault
 pub one_field_fault : (place : ℕ) (M N : ℕ → Type 0) (bytes : List ℕ) (f g : Fault) → IsFieldFault place M bytes f → IsFieldFault place N bytes g → f ≡ g
@@ -38,46 +39,77 @@ flag_few : (b : Bool) → flag_field b < 2 ^ 8
 flag_few true = omega arith
 flag_few false = omega arith
 
-module _ (app : App) (p : Point) (t : TaskNo) (known : t.0 < length app.tasks) where
-  abbrev k : Component
-  k = component.Task t
+-- a component whose values are listed
+abbrev pub IsListed : App → Component → Type 0
+IsListed app (component.Task t) = t.0 < length app.tasks
+IsListed app (component.Event t j) = ⊥
+IsListed app (component.Alarm a) = ⊥
+IsListed app (component.Source k) = k.0 < source_count app
 
-  block_few : (b : ℕ) → IsOwn app t.0 b → b < 2 ^ 16
-  block_few b own = (let owner = app.valid.each_task t.0 no_task known in omega (arith, own.1, owner.inside, app.valid.few_blocks))
+-- ---- the fields of its values are within their limits, and none begins another's
 
-  val_within : (v : Val) → IsVal app t.0 v → AreWithin 0 (task_fields v)
-  val_within Suspended h = (omega arith, tt)
-  val_within (Live x) h =
-      let few : length x.held ≤ 8 = omega (arith, stack_few (length app.resources) x.held h.stack.out_of, app.valid.few_resources) in
-      let takes = (app.valid.activations t.0 no_task known).1 in (
-        omega arith,
-        (
-          block_few x.block.0 h.own,
-          (
-            omega (arith, h.further, takes),
-            (
-              flag_few x.inside,
-              (
-                omega (arith, few),
-                bytes_within 3 x.held (each_few (length app.resources) x.held app.valid.few_resources (recursion_from_All (λ (r : ResNo). r.0 < length app.resources) x.held h.stack.out_of.known)),
-              ),
-            ),
-          ),
-        ),
-      )
-  val_within (Waiting b) h = (omega arith, (block_few b.0 h.own, tt))
+module _ (app : App) where
+  block_few : (b : ℕ) → b < length app.blocks → b < 2 ^ 16
+  block_few b known = (let few = app.valid.few_blocks in omega (arith, known, few))
 
-  pub within : (v : PartValue) → IsPart app p k v → AreWithin 0 (value_fields v)
-  within (OfTask v) h = val_within v h.0
-  within (OfEvent b) h = absurd h
-  within (OfAlarm b) h = absurd h
+  few_held : (h : List ResNo) → IsStack app h → length h ≤ 8
+  few_held h stack = omega (arith, stack_few (length app.resources) h stack.out_of, app.valid.few_resources)
 
-  pub alone : (v w : PartValue) (more : List ℕ) → IsPart app p k v → IsPart app p k w → value_fields w ≡ value_fields v ++ more → v ≡ w
-  alone (OfTask v) (OfTask w) more h g e = ap OfTask (val_alone v w more e)
-  alone (OfTask v) (OfEvent b) more h g e = absurd g
-  alone (OfTask v) (OfAlarm b) more h g e = absurd g
-  alone (OfEvent b) w more h g e = absurd h
-  alone (OfAlarm b) w more h g e = absurd h
+  stack_within : (j : ℕ) (h : List ResNo) → IsStack app h → AreWithin (suc (suc j)) (resource_numbers h)
+  stack_within j h stack = bytes_within j h (each_few (length app.resources) h app.valid.few_resources (recursion_from_All (λ (r : ResNo). r.0 < length app.resources) h stack.out_of.known))
+
+  val_within : (t : ℕ) → t < length app.tasks → (v : Val) → IsVal app t v → AreWithin 0 (task_fields v)
+  val_within t known Suspended h = (omega arith, tt)
+  val_within t known (Live x) h =
+      let few = few_held x.held h.stack in
+      let takes = (app.valid.activations t no_task known).1 in
+      let further = h.further in
+      (omega arith, (block_few x.block.0 (own_known app t x.block.0 known h.own), (omega (arith, further, takes), (flag_few x.inside, (omega (arith, few), stack_within 3 x.held h.stack)))))
+  val_within t known (Waiting b) h = (omega arith, (block_few b.0 (own_known app t b.0 known h.own), tt))
+
+  source_within : (k : ℕ) → k < source_count app → (v : SourceVal) → IsSourceVal app k v → AreWithin 0 (source_numbers v)
+  source_within k known source_val.Out h = (omega arith, tt)
+  source_within k known (source_val.In x) h =
+      let few = few_held x.held h.stack in
+      (omega arith, (block_few x.block.0 (routine_known app k x.block.0 known h.own), (omega (arith, few), stack_within 1 x.held h.stack)))
+
+  module _ (p : Point) where
+    fields_within : (k : Component) → IsListed app k → (v : PartValue) → IsPart app p k v → AreWithin 0 (value_fields v)
+    fields_within (component.Task t) known (OfTask v) h = val_within t.0 known v h.0
+    fields_within (component.Task t) known (OfEvent b) h = absurd h
+    fields_within (component.Task t) known (OfAlarm b) h = absurd h
+    fields_within (component.Task t) known (OfSource v) h = absurd h
+    fields_within (component.Event t j) known v h = absurd known
+    fields_within (component.Alarm a) known v h = absurd known
+    fields_within (component.Source k) known (OfTask v) h = absurd h
+    fields_within (component.Source k) known (OfEvent b) h = absurd h
+    fields_within (component.Source k) known (OfAlarm b) h = absurd h
+    fields_within (component.Source k) known (OfSource v) h = source_within k.0 known v h.0
+
+    fields_alone : (k : Component) → IsListed app k → (v w : PartValue) (more : List ℕ) → IsPart app p k v → IsPart app p k w → value_fields w ≡ value_fields v ++ more → v ≡ w
+    fields_alone (component.Task t) known (OfTask v) (OfTask w) more h g e = ap OfTask (val_alone v w more e)
+    fields_alone (component.Task t) known (OfTask v) (OfEvent b) more h g e = absurd g
+    fields_alone (component.Task t) known (OfTask v) (OfAlarm b) more h g e = absurd g
+    fields_alone (component.Task t) known (OfTask v) (OfSource w) more h g e = absurd g
+    fields_alone (component.Task t) known (OfEvent b) w more h g e = absurd h
+    fields_alone (component.Task t) known (OfAlarm b) w more h g e = absurd h
+    fields_alone (component.Task t) known (OfSource v) w more h g e = absurd h
+    fields_alone (component.Event t j) known v w more h g e = absurd known
+    fields_alone (component.Alarm a) known v w more h g e = absurd known
+    fields_alone (component.Source k) known (OfTask v) w more h g e = absurd h
+    fields_alone (component.Source k) known (OfEvent b) w more h g e = absurd h
+    fields_alone (component.Source k) known (OfAlarm b) w more h g e = absurd h
+    fields_alone (component.Source k) known (OfSource v) (OfTask w) more h g e = absurd g
+    fields_alone (component.Source k) known (OfSource v) (OfEvent b) more h g e = absurd g
+    fields_alone (component.Source k) known (OfSource v) (OfAlarm b) more h g e = absurd g
+    fields_alone (component.Source k) known (OfSource v) (OfSource w) more h g e = ap OfSource (source_alone v w more e)
+
+module _ (app : App) (p : Point) (k : Component) (known : IsListed app k) where
+  within : (v : PartValue) → IsPart app p k v → AreWithin 0 (value_fields v)
+  within = fields_within app p k known
+
+  alone : (v w : PartValue) (more : List ℕ) → IsPart app p k v → IsPart app p k w → value_fields w ≡ value_fields v ++ more → v ≡ w
+  alone = fields_alone app p k known
 
   -- a value is read in one way
   pub one_value : (v w : PartValue) (r s : List ℕ) → IsPart app p k v → IsPart app p k w → value_bytes v ++ r ≡ value_bytes w ++ s → (v ≡ w) × (r ≡ s)

@@ -4,7 +4,7 @@ use Rattle.std.specs.{Prelude.{◌==◌, if◌then◌else◌}, Int.{to_be_bytes,
 use Rattle.osek_values.specs.{Numbers.{res_no}, declared.numbers.{ResNo.{ResNo}, BlockNo.{BlockNo}}}
 use Rattle.osek_standard.specs.{declared.app.App.{App}, Counts.{takable_count}, Validity.{IsAmong}, Well.{IsStack, IsWaitingAt}}
 use Rattle.abstract_state.proofs.TakableStacks.{few_on_stack}
-use Rattle.abstract_state.specs.declared.value.{LiveVal.{LiveVal}, Val.TheVariants.{Suspended, Live, Waiting}, PartValue.{PartValue, TheVariants.{OfTask, OfEvent, OfAlarm}}}
+use Rattle.abstract_state.specs.declared.value.{LiveVal.{LiveVal}, Val.TheVariants.{Suspended, Live, Waiting}, PartValue.{PartValue, TheVariants.{OfTask, OfEvent, OfAlarm, OfSource}}}
 use Rattle.abstract_state.specs.{Components.{live_val, IsPart}, ValueOrder.{flag_field}}
 use Rattle.table_codec.specs.{declared.{fault.Fault.{Fault}, shape.Shape.{Shape}}, Spelling.{resource_numbers, value_fields, fields_from}}
 use Rattle.table_codec.specs.{Faults.{IsFieldFault, field_cut, field_barred, Begins, IsValueFault}, Shapes.{IsFlag, IsLiveShaped, IsShape, shaped}}
@@ -17,7 +17,7 @@ field_fault i j M N bytes f same less (field_cut few e) = field_cut (subst (λ (
 field_fault i j M N bytes f same less (field_barred n more lt is bars e) =
     field_barred n more (subst (λ (b : Bool). n < (if b then 2 ^ 16 else 2 ^ 8)) same lt) (is ∙ ap (λ (b : Bool). (if b then to_be_bytes w16 n else n ∷ []) ++ more) same) (λ may. bars (less n may)) e
 
-late_place : (n : ℕ) → (2 == 1) ≡ (suc (suc n) == 1)
+pub late_place : (n : ℕ) → (2 == 1) ≡ (suc (suc n) == 1)
 late_place n = by_test (suc (suc n) == 1) refl
   where
     by_test : (b : Bool) → (suc (suc n) == 1) ≡ b → (2 == 1) ≡ b
@@ -25,7 +25,7 @@ late_place n = by_test (suc (suc n) == 1) refl
     by_test false e = refl
 
 -- a stack whose numbers begin with a stack's
-numbers_split : (xs hs : List ResNo) (ms : List ℕ) → resource_numbers xs ≡ resource_numbers hs ++ ms → xs ≡ hs ++ map res_no ms
+pub numbers_split : (xs hs : List ResNo) (ms : List ℕ) → resource_numbers xs ≡ resource_numbers hs ++ ms → xs ≡ hs ++ map res_no ms
 numbers_split [] [] [] e = refl
 numbers_split [] [] (m ∷ ms) e = absurd (cc)
 numbers_split [] (h ∷ hs) ms e = absurd (cc)
@@ -78,6 +78,7 @@ module _ (app : App) (x : Shape) (s : IsShape app x) where
   live_form (OfTask (Waiting b)) rest h e = absurd (cc)
   live_form (OfEvent b) rest h e = absurd h
   live_form (OfAlarm b) rest h e = absurd h
+  live_form (OfSource v) rest h e = absurd h
 
   wait_form : (v : PartValue) (rest : List ℕ) → Can v → value_fields v ≡ 2 ∷ rest → (b : BlockNo) × (v ≡ OfTask (Waiting b)) × (rest ≡ b.0 ∷ [])
   wait_form (OfTask Suspended) rest h e = absurd (cc)
@@ -85,6 +86,7 @@ module _ (app : App) (x : Shape) (s : IsShape app x) where
   wait_form (OfTask (Waiting b)) rest h e = (b, refl, cc)
   wait_form (OfEvent b) rest h e = absurd h
   wait_form (OfAlarm b) rest h e = absurd h
+  wait_form (OfSource v) rest h e = absurd h
 
   some_fields : (v : PartValue) → Can v → value_fields v ≢ []
   some_fields (OfTask Suspended) h e = cc
@@ -92,6 +94,7 @@ module _ (app : App) (x : Shape) (s : IsShape app x) where
   some_fields (OfTask (Waiting b)) h e = cc
   some_fields (OfEvent b) h e = h
   some_fields (OfAlarm b) h e = h
+  some_fields (OfSource v) h e = h
 
   -- what is known of a Live value whose fields begin so
   pub record IsLiveOf (fields : List ℕ) : Type 0 where
@@ -146,6 +149,7 @@ module _ (app : App) (x : Shape) (s : IsShape app x) where
       tag_of (OfTask (Waiting b)) n more h e = (let same : 2 ≡ n = cc in subst (IsTag x) same (s.waits.1 (b, h)))
       tag_of (OfEvent b) n more h e = absurd h
       tag_of (OfAlarm b) n more h e = absurd h
+      tag_of (OfSource v) n more h e = absurd h
 
       may : (n : ℕ) → Starts (n ∷ []) → IsTag x n
       may n begins = tag_of begins.value n begins.more begins.allowed begins.is

@@ -1,13 +1,14 @@
 -- Writing sets, entries and rows one after the other, and that what is written so is the table's spelling.
-use Rattle.std.proofs.Common.{◌≡◌, ℕ, zero, suc, ◌+◌, ◌<◌, ◌≤◌, Bool, true, false, cond, List, [], ◌∷◌, ◌++◌, length, map, filter, take, drop, get_or, refl, sym, ap, ap₂, subst, ◌∙◌, arith, append_assoc, length-append, Some}
+use Rattle.std.proofs.Common.{◌≡◌, ℕ, zero, suc, ◌+◌, ◌^◌, ◌<◌, ◌≤◌, Bool, true, false, cond, List, [], ◌∷◌, ◌++◌, length, map, filter, take, drop, get_or, refl, sym, ap, ap₂, subst, ◌∙◌, arith, append_assoc, length-append, Some}
 use Rattle.std.specs.Prelude.{◌==◌, if◌then◌else◌, sum_by, slice_get}
 use Rattle.std.proofs.{Math.Seq.{get_or-append_seam}, lemmas.List.Elements.{All-weaker}}
-use Rattle.osek_values.specs.{Numbers.{alarm_no}, declared.numbers.TaskNo.{TaskNo}}
+use Rattle.osek_values.specs.{Numbers.{alarm_no}, declared.numbers.{TaskNo.{TaskNo}, SourceNo.{SourceNo}, ResNo.{ResNo}}}
 use Rattle.std.specs.List.{flat_map, AllByRecursion}
 use Rattle.std.proofs.lemmas.{Bool.{eq-eqb, ne_eqb}, List.{length_push, Concat.{flat_map-cons}}}
-use Rattle.osek_standard.specs.{declared.{app.App.{App}, point.Point.{Point}}, Points.{point_number}}
+use Rattle.osek_standard.specs.{declared.{app.App.{App}, point.Point.{Point}}, Points.{point_number}, Well.{IsStack}}
 use Rattle.osek_standard.proofs.StackLaws.{stack_few}
-use Rattle.abstract_state.specs.declared.value.{Component.{Component}, PartValue.{PartValue, TheVariants.{OfTask, OfEvent, OfAlarm}}, Val.TheVariants.{Suspended, Live, Waiting}}
+use Rattle.abstract_state.specs.declared.value.{Component.{Component}, PartValue.{PartValue, TheVariants.{OfTask, OfEvent, OfAlarm, OfSource}}, Val.TheVariants.{Suspended, Live, Waiting}}
+use Rattle.abstract_state.specs.declared.value.SourceVal.TheVariants as source_val
 use Rattle.abstract_state.specs.declared.value.Component.TheVariants as component
 use Rattle.abstract_state.specs.{declared.table.{ValueSet.{ValueSet}, TableRow.{TableRow}}, Components.{components, component_at, IsPart}, Tables.{same_point}}
 use Rattle.abstract_state.proofs.EqualityLaws.{point_itself}
@@ -67,18 +68,30 @@ writable_at (x ∷ xs) (w ∷ values) (y ∷ ks) (suc place) k v a b c at is h =
 
 -- ---- good sets can be written
 
+stack_written : (app : App) (h : List ResNo) → IsStack app h → length h < 2 ^ 8
+stack_written app h stack = (let few = app.valid.few_resources in omega (arith, few, stack_few (length app.resources) h stack.out_of))
+
 value_written : (app : App) (p : Point) (t : TaskNo) (v : PartValue) → IsPart app p (component.Task t) v → CanBeWritten v
 value_written app p t (OfTask Suspended) h = record { some = omega arith; few = omega arith }
-value_written app p t (OfTask (Live x)) h = (let few = app.valid.few_resources in record { some = omega arith; few = omega (arith, few, stack_few (length app.resources) x.held h.0.stack.out_of) })
+value_written app p t (OfTask (Live x)) h = record { some = omega arith; few = stack_written app x.held h.0.stack }
 value_written app p t (OfTask (Waiting b)) h = record { some = omega arith; few = omega arith }
 value_written app p t (OfEvent b) h = absurd h
 value_written app p t (OfAlarm b) h = absurd h
+value_written app p t (OfSource v) h = absurd h
+
+source_written : (app : App) (p : Point) (k : SourceNo) (v : PartValue) → IsPart app p (component.Source k) v → CanBeWritten v
+source_written app p k (OfTask v) h = absurd h
+source_written app p k (OfEvent b) h = absurd h
+source_written app p k (OfAlarm b) h = absurd h
+source_written app p k (OfSource source_val.Out) h = record { some = omega arith; few = omega arith }
+source_written app p k (OfSource (source_val.In x)) h = record { some = omega arith; few = stack_written app x.held h.0.stack }
 
 module _ (app : App) (p : Point) where
   pub good_writable : (k : Component) (vs : List PartValue) → AreGoodValues app p k vs → IsWritable k vs
   good_writable (component.Task t) vs h = All-weaker (IsPart app p (component.Task t)) CanBeWritten (value_written app p t) vs h.allowed
   good_writable (component.Event t j) vs h = (flag_range OfEvent vs (sum_by flag_number vs) (event_set app p t j vs h)).1
   good_writable (component.Alarm a) vs h = (flag_range OfAlarm vs (sum_by flag_number vs) (alarm_set app p a vs h)).1
+  good_writable (component.Source k) vs h = All-weaker (IsPart app p (component.Source k)) CanBeWritten (source_written app p k) vs h.allowed
 
   writable_from : (done ks : List Component) (n : ℕ) (sets : List (List PartValue)) → components app ≡ done ++ ks → n ≡ length done → ((c : ℕ) (vs : List PartValue) → slice_get sets c ≡ Some vs → AreGoodValues app p (component_at app (n + c)) vs) → AreWritable ks sets
   writable_from done [] n sets is size good = tt

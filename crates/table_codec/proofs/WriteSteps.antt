@@ -3,7 +3,7 @@ use Rattle.std.proofs.Common.{◌≡◌, ℕ, zero, suc, ◌+◌, ◌<◌, ◌�
 use Rattle.std.specs.{Prelude.{if◌then◌else◌, sum_by, Err}, Int.{to_be_bytes, w16}}
 use Rattle.std.proofs.{Math.ListN.{drop_of_length-le}, lemmas.{Bool.{eq-eqb, ne_eqb}, List.{Sums.{sum_by-append, sum_by-cons}}}}
 use Rattle.osek_standard.specs.{declared.point.Point.{Point}, Points.{point_number}}
-use Rattle.abstract_state.specs.declared.value.{Component.{Component}, LiveVal.{LiveVal}, Val.TheVariants.{Live}, PartValue.{TheVariants.{OfTask}}}
+use Rattle.abstract_state.specs.declared.value.{Component.{Component}, LiveVal.{LiveVal}, RoutineVal.{RoutineVal}, Val.TheVariants.{Live}, SourceVal.TheVariants.{In}, PartValue.{TheVariants.{OfTask, OfSource}}}
 use Rattle.abstract_state.specs.ValueOrder.{flag_field}
 use Rattle.numbered_sets.specs.{Numbers.{Numbers, has_number}, declared.table.NumberedRow.{NumberedRow}}
 use Rattle.table_codec.specs.{declared.ascending.NumberedValue.{NumberedValue}, Ascending.{values_in}, Spelling.{flag_number, resource_numbers, sets_bytes, value_bytes}}
@@ -89,3 +89,13 @@ live_put x out tag block further inside size all a b c d e f =
     let two = joined tag block all word (x.further ∷ flag ∷ length x.held ∷ numbers) b three in
     joined out tag all (1 ∷ []) (word ++ x.further ∷ flag ∷ length x.held ∷ numbers) a two
     ∙ ap (λ (l : List ℕ). out ++ 1 ∷ (word ++ x.further ∷ flag ∷ length x.held ∷ l)) (sym (narrow_fields 3 numbers))
+
+-- and those of a routine
+pub routine_put : (x : RoutineVal) (out tag block size all : List ℕ) → tag ≡ out ++ 1 ∷ [] → block ≡ tag ++ to_be_bytes w16 x.block.0 → size ≡ block ++ length x.held ∷ [] → all ≡ size ++ resource_numbers x.held
+    → all ≡ out ++ value_bytes (OfSource (In x))
+routine_put x out tag block size all a b c d =
+    let word = to_be_bytes w16 x.block.0 in
+    let numbers = resource_numbers x.held in
+    let three = joined block size all (length x.held ∷ []) numbers c d in
+    let two = joined tag block all word (length x.held ∷ numbers) b three in
+    joined out tag all (1 ∷ []) (word ++ length x.held ∷ numbers) a two ∙ ap (λ (l : List ℕ). out ++ 1 ∷ (word ++ length x.held ∷ l)) (sym (narrow_fields 1 numbers))

@@ -77,6 +77,7 @@ module _ (app : App) (p : Point) (k : Component) where
   IsSetFaultOf (component.Task t) bytes f = IsListedFault app p k bytes f
   IsSetFaultOf (component.Event t j) bytes f = IsFlagsFault bytes f
   IsSetFaultOf (component.Alarm a) bytes f = IsFlagsFault bytes f
+  IsSetFaultOf (component.Source j) bytes f = IsListedFault app p k bytes f
 
   abbrev pub IsSetFault : List ℕ → Fault → Type 0
   IsSetFault bytes f = IsSetFaultOf k bytes f

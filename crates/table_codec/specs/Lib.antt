@@ -2,11 +2,13 @@ pub mod Ascending
 pub mod Faults
 pub mod Kept
 pub mod Laws
+pub mod ListedShapes
 pub mod Ranks
 pub mod Rules
 pub mod Rows
 pub mod Sets
 pub mod Shapes
+pub mod SourceShapes
 pub mod Spelling
 pub mod Values
 pub mod Writing

@@ -2,7 +2,8 @@
 use Rattle.std.specs.{Prelude.{ℕ, suc, ◌^◌, ◌<◌, ◌==◌, List, [], ◌∷◌, ◌++◌, length, map, filter, sum_by, if◌then◌else◌, codes, All}, List.{flat_map, zip}, Int.{to_be_bytes, w16, w32}}
 use Rattle.osek_values.specs.declared.numbers.ResNo.{ResNo}
 use Rattle.osek_standard.specs.declared.{app.App.{App}, point.Point.{Point}}
-use Rattle.abstract_state.specs.declared.value.{Val.{Val, TheVariants.{Suspended, Live, Waiting}}, Component.{Component}, PartValue.{PartValue, TheVariants.{OfTask, OfEvent, OfAlarm}}}
+use Rattle.abstract_state.specs.declared.value.{Val.{Val, TheVariants.{Suspended, Live, Waiting}}, SourceVal.{SourceVal}, Component.{Component}, PartValue.{PartValue, TheVariants.{OfTask, OfEvent, OfAlarm, OfSource}}}
+use Rattle.abstract_state.specs.declared.value.SourceVal.TheVariants as source_val
 use Rattle.abstract_state.specs.declared.value.Component.TheVariants as component
 use Rattle.abstract_state.specs.{declared.table.{ValueSet.{ValueSet}, PlainEntry.{PlainEntry}, TableRow.{TableRow}, PlainTable.{PlainTable}}, Components.{components}}
 use Rattle.abstract_state.specs.{Concrete.{flag_of}, ValueOrder.{flag_field}, Tables.{is_row_of}, Written.{IsWritten}}
@@ -19,11 +20,17 @@ task_fields Suspended = 0 ∷ []
 task_fields (Live x) = 1 ∷ x.block.0 ∷ x.further ∷ flag_field x.inside ∷ length x.held ∷ resource_numbers x.held
 task_fields (Waiting b) = 2 ∷ b.0 ∷ []
 
+-- Whether a routine began, 1, or not, 0; then its block, the size of its stack, and the stack.
+abbrev pub source_numbers : SourceVal → List ℕ
+source_numbers source_val.Out = 0 ∷ []
+source_numbers (source_val.In x) = 1 ∷ x.block.0 ∷ length x.held ∷ resource_numbers x.held
+
 -- The fields of a value that is written by itself.
 abbrev pub value_fields : PartValue → List ℕ
 value_fields (OfTask v) = task_fields v
 value_fields (OfEvent b) = []
 value_fields (OfAlarm b) = []
+value_fields (OfSource v) = source_numbers v
 
 -- A block takes two bytes, and each other field one.
 abbrev pub field_width : ℕ → ℕ
@@ -59,6 +66,7 @@ abbrev pub set_bytes : Component → List PartValue → List ℕ
 set_bytes (component.Task t) vs = listed vs
 set_bytes (component.Event t k) vs = flags vs
 set_bytes (component.Alarm a) vs = flags vs
+set_bytes (component.Source k) vs = listed vs
 
 -- the set of each component
 abbrev pub sets_bytes : List Component → List (List PartValue) → List ℕ
@@ -81,7 +89,7 @@ point_bytes app rows p = rows_bytes app (filter (is_row_of p) rows)
 
 -- OSEKTAB, and the version
 abbrev pub magic : List ℕ
-magic = codes "OSEKTAB" ++ 1 ∷ []
+magic = codes "OSEKTAB" ++ 2 ∷ []
 
 -- The one spelling of a table of an application.
 unfoldable pub spelling : App → PlainTable → List ℕ

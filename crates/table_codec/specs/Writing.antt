@@ -1,8 +1,9 @@
 -- What a writer answers, and what it is given: the values of each component in their order, each with its number.
 use Rattle.std.specs.Prelude.{◌≡◌, ⊤, ℕ, ◌+◌, ◌^◌, ◌<◌, ◌≤◌, ◌==◌, List, [], ◌∷◌, ◌++◌, length, sum_by, slice_index_or, All, if◌then◌else◌, Result, Ok, Err}
 use Rattle.osek_standard.specs.{declared.point.Point.{Point}, Points.{point_number}}
-use Rattle.abstract_state.specs.declared.value.{Component.{Component}, Val.TheVariants.{Suspended, Live, Waiting}, PartValue.{PartValue, TheVariants.{OfTask, OfEvent, OfAlarm}}}
+use Rattle.abstract_state.specs.declared.value.{Component.{Component}, Val.TheVariants.{Suspended, Live, Waiting}, PartValue.{PartValue, TheVariants.{OfTask, OfEvent, OfAlarm, OfSource}}}
 use Rattle.abstract_state.specs.declared.value.Component.TheVariants as component
+use Rattle.abstract_state.specs.declared.value.SourceVal.TheVariants as source_val
 use Rattle.table_codec.specs.{declared.ascending.NumberedValue.{NumberedValue}, Ascending.{values_in, AreInOrder}}
 use Rattle.numbered_sets.specs.{Numbers.{Numbers}, Pools.{Values, values_at}, declared.table.NumberedRow.{NumberedRow}}
 use Rattle.osek_values.specs.declared.limits.TheConstants.{MAX_TABLE}
@@ -21,17 +22,20 @@ stack_size (OfTask (Live x)) = length x.held
 stack_size (OfTask (Waiting b)) = 0
 stack_size (OfEvent b) = 0
 stack_size (OfAlarm b) = 0
+stack_size (OfSource source_val.Out) = 0
+stack_size (OfSource (source_val.In x)) = length x.held
 
 -- it has bytes, and its stack's size fits one
 pub record CanBeWritten (v : PartValue) : Type 0 where
   pub some : 0 < length (value_bytes v)
   pub few : stack_size v < 2 ^ 8
 
--- a task's values, or one of each flag at most
+-- values of a task or of a source, or one of each flag at most
 abbrev pub IsWritable : Component → List PartValue → Type 0
 IsWritable (component.Task t) vs = All CanBeWritten vs
 IsWritable (component.Event t k) vs = sum_by flag_number vs ≤ 3
 IsWritable (component.Alarm a) vs = sum_by flag_number vs ≤ 3
+IsWritable (component.Source k) vs = All CanBeWritten vs
 
 -- each of the first components has a writable set
 abbrev pub AreWritable : List Component → List (List PartValue) → Type 0

@@ -5,12 +5,15 @@ mod ascending;
 mod entries;
 mod fault;
 mod laws;
+mod listed_shape;
 mod points;
 mod ranks;
 mod reader;
 mod reading;
 mod sets;
 mod shape;
+mod source_shape;
+mod source_values;
 mod values;
 mod writing;
 

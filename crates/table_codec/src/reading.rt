@@ -24,7 +24,7 @@ use std::alloc::Global;
 pub(crate) fn magic() -> &'static [u8]
     ensures { result.now ≡ magic_of }
 {
-    b"OSEKTAB\x01"
+    b"OSEKTAB\x02"
 }
 
 fn read_magic(reader: &mut Reader) -> Result<(), Fault>

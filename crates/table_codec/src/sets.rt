@@ -4,12 +4,15 @@ ghost use Rattle.osek_values.specs.Answers.{Refuses};
 ghost use Rattle.std.specs.Int.{to_be_bytes, w32};
 ghost use Rattle.abstract_state.specs.declared.value.PartValue.TheVariants as part;
 ghost use Rattle.abstract_state.specs.{ValueOrder.{IsAscending}, Components.{IsPart, IsComponent}};
-ghost use Rattle.table_codec.specs.{Faults.{IsNextFault, IsCountFault, IsListedFault, IsFlagsFault, IsSetFault}, Sets.{IsReadList, IsReadSet, IsNextValue, IsFlagNumber, flagged}};
-ghost use Rattle.table_codec.specs.Shapes.{IsShape, shaped};
+ghost use Rattle.table_codec.specs.{Faults.{IsValueFault, IsNextFault, IsCountFault, IsListedFault, IsFlagsFault, IsSetFault}, Sets.{IsReadList, IsReadSet, IsNextValue, IsFlagNumber, flagged}};
+ghost use Rattle.table_codec.specs.{Values.{IsReadValue}, ListedShapes.{IsListedShape, point_of, component_of}};
 
 use crate::fault::{Fault, ReadError, TableRule};
+use crate::listed_shape::ListedShape;
 use crate::reader::{Reader, fault};
 use crate::shape::Shape;
+use crate::source_shape::SourceShape;
+use crate::source_values::source_value;
 use crate::values::value;
 use abstract_state::{Component, Domain, PartValue, ValueSet, domain_of};
 use osek_standard::{App, Point};
@@ -30,7 +33,7 @@ pub(crate) fn set(
 {
     match component {
         Component::Task(task) => {
-            let shape = Shape::of(app, point, task);
+            let shape = ListedShape::Task(Shape::of(app, point, task));
             let members = listed(alloc, reader, app, &shape)?;
             Ok(ValueSet {
                 domain: domain_of(app, component),
@@ -53,19 +56,27 @@ pub(crate) fn set(
                 members,
             })
         }
+        Component::Source(source) => {
+            let shape = ListedShape::Source(SourceShape::of(app, point, source));
+            let members = listed(alloc, reader, app, &shape)?;
+            Ok(ValueSet {
+                domain: domain_of(app, component),
+                members,
+            })
+        }
     }
 }
 
-// the values of a task, behind their number
+// the values of a component, behind their number
 fn listed(
     alloc: Global,
     reader: &mut Reader,
     app: &App,
-    shape: &Shape,
+    shape: &ListedShape,
 ) -> Result<Seq<PartValue>, ReadError>
-    requires { IsShape app.now shape.now }
-    ensures ok { IfOk result (IsReadList app.now shape.now.point (shaped shape.now) reader.old reader.new) }
-    ensures err { IfErr result (λ e. Refuses e (IsListedFault app.now shape.now.point (shaped shape.now) reader.old)) }
+    requires { IsListedShape app.now shape.now }
+    ensures ok { IfOk result (IsReadList app.now (point_of shape.now) (component_of shape.now) reader.old reader.new) }
+    ensures err { IfErr result (λ e. Refuses e (IsListedFault app.now (point_of shape.now) (component_of shape.now) reader.old)) }
 {
     let count = count(reader)?;
     let mut values = Seq::new(alloc);
@@ -95,20 +106,32 @@ fn count(reader: &mut Reader) -> Result<u32, Fault>
 fn next_value(
     reader: &mut Reader,
     app: &App,
-    shape: &Shape,
+    shape: &ListedShape,
     before: &Seq<PartValue>,
 ) -> Result<PartValue, Fault>
-    requires shape { IsShape app.now shape.now }
+    requires shape { IsListedShape app.now shape.now }
     requires ascending { IsAscending before.now }
-    ensures ok { IfOk result (IsNextValue app.now shape.now.point (shaped shape.now) before.now reader.old reader.new) }
-    ensures err { IfErr result (IsNextFault app.now shape.now.point (shaped shape.now) before.now reader.old) }
+    ensures ok { IfOk result (IsNextValue app.now (point_of shape.now) (component_of shape.now) before.now reader.old reader.new) }
+    ensures err { IfErr result (IsNextFault app.now (point_of shape.now) (component_of shape.now) before.now reader.old) }
 {
     let left = reader.left();
-    let next = value(reader, app, shape)?;
+    let next = listed_value(reader, app, shape)?;
     if !is_above(before, &next) {
         return Err(fault(TableRule::K4, left));
     }
     Ok(next)
+}
+
+// a value that a component can have, as its shape says
+fn listed_value(reader: &mut Reader, app: &App, shape: &ListedShape) -> Result<PartValue, Fault>
+    requires { IsListedShape app.now shape.now }
+    ensures ok { IfOk result (IsReadValue app.now (point_of shape.now) (component_of shape.now) reader.old reader.new) }
+    ensures err { IfErr result (IsValueFault app.now (point_of shape.now) (component_of shape.now) reader.old) }
+{
+    match shape {
+        ListedShape::Task(shape) => value(reader, app, shape),
+        ListedShape::Source(shape) => source_value(reader, app, shape),
+    }
 }
 
 fn is_above(before: &Seq<PartValue>, value: &PartValue) -> bool

@@ -7,6 +7,7 @@ ghost use Rattle.abstract_state.specs.Components.{IsComponent};
 ghost use Rattle.abstract_state.specs.declared.value.Component.TheVariants as component;
 ghost use Rattle.table_codec.specs.{Kept.{IsFree}, Shapes.{IsShape, is_over, RunsAt, RunsNowhere}};
 
+use crate::source_shape::is_free_source;
 use abstract_state::Component;
 use image_model::is_within;
 use osek_standard::{App, Call, Kind, MaskService, Point};
@@ -79,6 +80,7 @@ pub(crate) fn is_free(app: &App, point: Point, component: Component) -> bool
     match component {
         Component::Task(task) => is_free_task(app, point, task),
         Component::Event { task: _, bit: _ } | Component::Alarm(_) => true,
+        Component::Source(source) => is_free_source(app, point, source),
     }
 }
 

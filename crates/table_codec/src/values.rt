@@ -100,7 +100,7 @@ fn waiting_block(reader: &mut Reader, app: &App, task: TaskNo) -> Result<BlockNo
 }
 
 // one of so many blocks from the first on
-fn block_among(reader: &mut Reader, first: BlockNo, count: u16) -> Result<BlockNo, Fault>
+pub(crate) fn block_among(reader: &mut Reader, first: BlockNo, count: u16) -> Result<BlockNo, Fault>
     ensures ok { IfOk result (λ b. IsAmong b.0 first.0 count × (reader.old ≡ to_be_bytes w16 b.0 ++ reader.new)) }
     ensures err { IfErr result (IsFieldFault 1 (λ n. IsAmong n first.0 count) reader.old) }
 {
@@ -158,7 +158,7 @@ fn may_be_flag(shape: &Shape, number: u8) -> bool
 }
 
 // a byte that is no greater than another
-fn at_most(reader: &mut Reader, most: u8) -> Result<u8, Fault>
+pub(crate) fn at_most(reader: &mut Reader, most: u8) -> Result<u8, Fault>
     ensures ok { IfOk result (λ n. (n ≤ most) × (reader.old ≡ n ∷ reader.new)) }
     ensures err { IfErr result (IsFieldFault 2 (λ n. n ≤ most) reader.old) }
 {
@@ -174,7 +174,7 @@ fn at_most(reader: &mut Reader, most: u8) -> Result<u8, Fault>
 }
 
 // how many resources may stand on a stack
-fn takable_count(app: &App) -> u8
+pub(crate) fn takable_count(app: &App) -> u8
     ensures { result ≡ takable_in app.now }
 {
     let resources = app.resources.as_slice();
@@ -185,7 +185,7 @@ fn takable_count(app: &App) -> u8
 }
 
 // a stack of so many resources
-fn stack(reader: &mut Reader, app: &App, size: u8) -> Result<Held, Fault>
+pub(crate) fn stack(reader: &mut Reader, app: &App, size: u8) -> Result<Held, Fault>
     requires { size ≤ takable_in app.now }
     ensures ok { IfOk result (IsReadStack app.now size reader.old reader.new) }
     ensures err { IfErr result (IsStackFault app.now size reader.old) }

@@ -1,6 +1,6 @@
 //! The bytes of a table.
 ghost use Rattle.std.specs.{Prelude.{◌≡◌, ◌++◌, ◌∷◌, ◌^◌, ◌<◌, ◌≤◌, length, sum_by, All, IfOk, IfErr, OnOk}, List.{flat_map}};
-ghost use Rattle.abstract_state.specs.{declared.value.{Val.TheVariants.{Live}, PartValue.TheVariants.{OfTask}}, ValueOrder.{flag_field}, Written.{IsWritten}};
+ghost use Rattle.abstract_state.specs.{declared.value.{Val.TheVariants.{Live}, SourceVal.TheVariants.{In}, PartValue.TheVariants.{OfTask, OfSource}}, ValueOrder.{flag_field}, Written.{IsWritten}};
 ghost use Rattle.table_codec.specs.{Ascending.{values_in}, Ranks.{values_ranked}};
 ghost use Rattle.numbered_sets.specs.{SetLists.{set_of}, declared.table.NumberedRow.{NumberedRow as ARow}};
 ghost use Rattle.osek_values.specs.declared.limits.TheConstants.{MAX_TABLE};
@@ -13,7 +13,7 @@ use crate::fault::WriteFault;
 use crate::points::points;
 use crate::ranks::RankedValues;
 use crate::reading::magic;
-use abstract_state::{Component, LiveVal, PartValue, Val, components};
+use abstract_state::{Component, LiveVal, PartValue, RoutineVal, SourceVal, Val, components};
 use numbered_sets::{NumberedRow, NumberedSet, NumberedSets, Pool, Table};
 use osek_standard::{App, Point};
 use osek_values::limits::MAX_TABLE;
@@ -40,6 +40,11 @@ fn put_value(out: &mut Vec<u8>, value: &PartValue) -> Result<(), AllocError>
             out.extend_from_slice(&block.0.to_be_bytes())
         }
         PartValue::OfEvent(_) | PartValue::OfAlarm(_) => Ok(()),
+        PartValue::OfSource(SourceVal::Out) => {
+            out.push(0)?;
+            Ok(())
+        }
+        PartValue::OfSource(SourceVal::In(routine)) => put_routine(out, routine),
     }
 }
 
@@ -52,6 +57,17 @@ fn put_live(out: &mut Vec<u8>, live: &LiveVal) -> Result<(), AllocError>
     out.push(live.further)?;
     out.push(flag_byte(live.inside))?;
     let held = live.held.as_slice();
+    out.push(held.len() as u8)?;
+    put_stack(out, held)
+}
+
+fn put_routine(out: &mut Vec<u8>, routine: &RoutineVal) -> Result<(), AllocError>
+    requires { length routine.now.held < 2 ^ 8 }
+    ensures { OnOk result (out.new.items ≡ out.old.items ++ value_bytes (OfSource (In routine.now))) }
+{
+    out.push(1)?;
+    out.extend_from_slice(&routine.block.0.to_be_bytes())?;
+    let held = routine.held.as_slice();
     out.push(held.len() as u8)?;
     put_stack(out, held)
 }
@@ -125,7 +141,7 @@ fn flag_number(value: &PartValue) -> u8
     ensures { result ≡ flag_number_of value.now }
 {
     match value {
-        PartValue::OfTask(_) => 1,
+        PartValue::OfTask(_) | PartValue::OfSource(_) => 1,
         PartValue::OfEvent(set) | PartValue::OfAlarm(set) => if *set { 2 } else { 1 },
     }
 }
@@ -157,7 +173,7 @@ fn put_set(
     ensures { Puts result out.old.items out.new.items (set_bytes component (values_in (set_of sets.now place) values.now)) }
 {
     match component {
-        Component::Task(_) => put_listed(alloc, out, values, sets, place),
+        Component::Task(_) | Component::Source(_) => { put_listed(alloc, out, values, sets, place) }
         Component::Event { task: _, bit: _ } | Component::Alarm(_) => {
             out.push(flags(values.as_slice(), sets, place))?;
             Ok(())

@@ -161,7 +161,7 @@ fn are_counters(counters: &[Counter]) -> bool {
 }
 
 fn is_one_isr(isrs: &[Isr]) -> bool {
-    isrs.len() == 1 && isrs[0].first == BlockNo(0) && isrs[0].count == 6
+    isrs.len() == 1 && isrs[0].first == BlockNo(0) && isrs[0].count == 6 && isrs[0].priority == 7
 }
 
 /// An ISR's blocks, the task's, and the ticks of C and D.
@@ -193,18 +193,18 @@ fn locks_and_ticks_stand(app: &App) -> bool {
 #[test]
 fn locks_masks_and_ticks(rt: HostRuntime) {
     let oil =
-        b"CPU c { OS os; EVENT E1; EVENT E2; EVENT E3; TASK T { PRIORITY = 1; EVENT = E1; EVENT = E2; EVENT = E3; }; ISR I { CATEGORY = 2; }; COUNTER C { MAXALLOWEDVALUE = 9; }; COUNTER D { MAXALLOWEDVALUE = 9; }; ALARM A { COUNTER = D; ACTION = ACTIVATETASK { TASK = T; }; }; ALARM B { COUNTER = C; ACTION = ACTIVATETASK { TASK = T; }; }; };";
+        b"CPU c { OS os; EVENT E1; EVENT E2; EVENT E3; TASK T { PRIORITY = 1; EVENT = E1; EVENT = E2; EVENT = E3; }; ISR I { CATEGORY = 2; PRIORITY = 7; }; COUNTER C { MAXALLOWEDVALUE = 9; }; COUNTER D { MAXALLOWEDVALUE = 9; }; ALARM A { COUNTER = D; ACTION = ACTIVATETASK { TASK = T; }; }; ALARM B { COUNTER = C; ACTION = ACTIVATETASK { TASK = T; }; }; };";
     let text =
         b"ISR(I) {\nSuspendAllInterrupts();\nwork 3;\nResumeAllInterrupts();\nSetEvent(T, E1 | E3);\nCancelAlarm(B);\n}\nTASK(T) { }";
     assert!(rt; gives(rt.alloc(), oil, text, locks_and_ticks_stand));
 }
 
-/// A system with a task, a resource, an INTERNAL resource, and an ISR of either category.
+/// A system with a task, two resources, one of which an ISR names, an INTERNAL resource, and an ISR of either category.
 const OIL: &[u8] =
-    b"CPU c { OS os; TASK T { PRIORITY = 1; }; RESOURCE R; RESOURCE G { RESOURCEPROPERTY = INTERNAL; }; ISR I { CATEGORY = 2; }; ISR J { CATEGORY = 1; }; };";
+    b"CPU c { OS os; TASK T { PRIORITY = 1; }; RESOURCE R; RESOURCE S; RESOURCE G { RESOURCEPROPERTY = INTERNAL; }; ISR I { CATEGORY = 2; RESOURCE = S; }; ISR J { CATEGORY = 1; }; };";
 
 /// Code texts beside it, with what comes of them.
-const TEXTS: [(&[u8], Outcome); 10] = [
+const TEXTS: [(&[u8], Outcome); 12] = [
     (b"TASK(T) { } ISR(I) { }", Outcome::Blocks(2)),
     // a lesser rule outranks a lesser line
     (b"TASK(T) { } ISR(J) { }", Outcome::Faulty(CodeRule::C1, 0)),
@@ -220,8 +220,17 @@ const TEXTS: [(&[u8], Outcome); 10] = [
         b"TASK(T) { ActivateTask(\nI); } ISR(I) { }",
         Outcome::Faulty(CodeRule::C4, 2),
     ),
+    // of an ISR that names S alone
     (
-        b"TASK(T) { GetResource(R); } ISR(I) {\nReleaseResource(R); }",
+        b"TASK(T) { GetResource(R); } ISR(I) { GetResource(S); ReleaseResource(S); }",
+        Outcome::Blocks(5),
+    ),
+    (
+        b"TASK(T) { GetResource(R); } ISR(I) { GetResource(S);\nReleaseResource(R); }",
+        Outcome::Faulty(CodeRule::C6, 2),
+    ),
+    (
+        b"TASK(T) { } ISR(I) { while (?) {\nGetResource(RES_SCHEDULER); } }",
         Outcome::Faulty(CodeRule::C6, 2),
     ),
     (

@@ -1,6 +1,6 @@
 //! Files with what they declare, and with their least fault.
 use app_model::{
-    Action, Alarm, CounterObject, EventObject, Resource, Schedule, System, TaskObject,
+    Action, Alarm, CounterObject, EventObject, IsrObject, Resource, Schedule, System, TaskObject,
 };
 use oil_lexer::tokens;
 use oil_model::{ModelError, one_answer, resolve};
@@ -46,7 +46,7 @@ fn outcome_of(alloc: Global, text: &[u8]) -> Outcome {
 }
 
 /// Texts with what comes of them.
-const TEXTS: [(&[u8], Outcome); 48] = [
+const TEXTS: [(&[u8], Outcome); 54] = [
     // nothing but the OS object
     (b"CPU c { OS os; };", Outcome::Declares(0, 1, 1, 0)),
     // a kind that there isn't
@@ -226,11 +226,37 @@ const TEXTS: [(&[u8], Outcome); 48] = [
         Outcome::Faulty(OilRule::O15, 2),
     ),
     (
-        b"CPU c { OS os; RESOURCE R; ISR I { CATEGORY = 2;\nRESOURCE = R;\nRESOURCE = R; }; };",
-        Outcome::Faulty(OilRule::O15, 2),
+        b"CPU c { OS os; RESOURCE R; ISR I { CATEGORY = 2; PRIORITY = 255; RESOURCE = R; RESOURCE = R; }; };",
+        Outcome::Declares(0, 2, 1, 0),
+    ),
+    // the priority of an ISR of either category
+    (
+        b"CPU c { OS os; ISR I { CATEGORY = 2;\nPRIORITY = 256; }; };",
+        Outcome::Faulty(OilRule::O6, 2),
     ),
     (
-        b"CPU c { OS os; RESOURCE R; ISR I { CATEGORY = 1; RESOURCE = R; }; };",
+        b"CPU c { OS os; ISR I { CATEGORY = 1;\nPRIORITY = 256; }; };",
+        Outcome::Faulty(OilRule::O6, 2),
+    ),
+    (
+        b"CPU c { OS os; ISR I { CATEGORY = 2; PRIORITY = 1;\nPRIORITY = 1; }; };",
+        Outcome::Faulty(OilRule::O5, 2),
+    ),
+    // what a category 2 ISR may not name, each RESOURCE by itself
+    (
+        b"CPU c { OS os; RESOURCE R; RESOURCE G { RESOURCEPROPERTY = INTERNAL; }; ISR I { CATEGORY = 2; RESOURCE = R;\nRESOURCE = G;\nRESOURCE = G; }; };",
+        Outcome::Faulty(OilRule::O18, 2),
+    ),
+    (
+        b"CPU c { OS os; ISR I { CATEGORY = 2;\nRESOURCE = RES_SCHEDULER; }; };",
+        Outcome::Faulty(OilRule::O18, 2),
+    ),
+    (
+        b"CPU c { OS os { USERESSCHEDULER = FALSE; }; RESOURCE RES_SCHEDULER; ISR I { CATEGORY = 2; RESOURCE = RES_SCHEDULER; }; };",
+        Outcome::Declares(0, 1, 1, 0),
+    ),
+    (
+        b"CPU c { OS os; RESOURCE G { RESOURCEPROPERTY = INTERNAL; }; ISR I { CATEGORY = 1; RESOURCE = G; RESOURCE = RES_SCHEDULER; }; };",
         Outcome::Declares(0, 2, 1, 0),
     ),
     // INTERNAL resources: two of a task, where one that is named again is the same, and RES_SCHEDULER
@@ -369,6 +395,70 @@ fn activations_and_an_internal_resource(rt: HostRuntime) {
     let text =
         b"CPU c { OS os; RESOURCE R; RESOURCE G { RESOURCEPROPERTY = INTERNAL; }; TASK T1 { PRIORITY = 1; ACTIVATION = 255; RESOURCE = G; }; TASK T2 { PRIORITY = 2; RESOURCE = R; RESOURCE = G; }; TASK T3 { PRIORITY = 2; RESOURCE = R; }; };";
     assert!(rt; is_grouped(rt.alloc(), text));
+}
+
+// An ISR without PRIORITY has 0.
+fn are_isrs(isrs: &[IsrObject]) -> bool {
+    isrs.len() == 2
+        && isrs[0].priority == 3
+        && isrs[0].resources.len() == 2
+        && isrs[1].priority == 0
+        && isrs[1].resources.len() == 1
+}
+
+// What an ISR of category 2 names is as high for tasks as RES_SCHEDULER.
+fn are_ceilings(resources: &[Resource]) -> bool {
+    resources.len() == 4
+        && resources[0].ceiling == 9
+        && resources[0].interrupt_ceiling == 4
+        && resources[1].ceiling == 3
+        && resources[1].interrupt_ceiling == 0
+        && resources[2].ceiling == 9
+        && resources[2].interrupt_ceiling == 1
+        && resources[3].ceiling == 9
+        && resources[3].interrupt_ceiling == 0
+}
+
+fn has_ceilings(alloc: Global, text: &[u8]) -> bool {
+    match resolved(alloc, text) {
+        Ok(system) => {
+            let right = are_isrs(system.isrs.as_slice())
+                && are_ceilings(system.resources.as_slice())
+                && system.category_1_isrs.len() == 1;
+            drop(system);
+            right
+        }
+        Err(_) => false,
+    }
+}
+
+#[test]
+fn ceilings_for_interrupts(rt: HostRuntime) {
+    let text =
+        b"CPU c { OS os; RESOURCE R; RESOURCE S; RESOURCE Q; TASK T1 { PRIORITY = 1; RESOURCE = R; RESOURCE = S; }; TASK T2 { PRIORITY = 4; }; ISR J { CATEGORY = 1; PRIORITY = 9; RESOURCE = S; }; ISR I1 { CATEGORY = 2; RESOURCE = R; PRIORITY = 3; RESOURCE = R; }; ISR I2 { CATEGORY = 2; RESOURCE = Q; }; };";
+    assert!(rt; has_ceilings(rt.alloc(), text));
+}
+
+fn is_alone(resources: &[Resource]) -> bool {
+    resources.len() == 2 && resources[0].ceiling == 1 && resources[0].interrupt_ceiling == 256
+}
+
+fn has_no_task(alloc: Global, text: &[u8]) -> bool {
+    match resolved(alloc, text) {
+        Ok(system) => {
+            let right = is_alone(system.resources.as_slice());
+            drop(system);
+            right
+        }
+        Err(_) => false,
+    }
+}
+
+#[test]
+fn a_ceiling_without_a_task(rt: HostRuntime) {
+    let text =
+        b"CPU c { OS os; RESOURCE R; ISR I { CATEGORY = 2; PRIORITY = 255; RESOURCE = R; }; };";
+    assert!(rt; has_no_task(rt.alloc(), text));
 }
 
 /// A text of almost 1 MiB: events of different names, and the OS object behind them.

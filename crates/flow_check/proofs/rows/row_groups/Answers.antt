@@ -1,4 +1,4 @@
-use Rattle.flow_rules.proofs.LeavingPoints.{filled_numbers}
+use Rattle.flow_rules.proofs.EntryCounts.{filled_numbers}
 use Rattle.numbered_sets.{specs.PlainTables.{plain_row}, proofs.WrittenRows.{number_domains_of}}
 use Rattle.flow_rules.specs.Groups.{all_exits}
 use Rattle.flow_check.proofs.rows.row_groups.Goals as goal

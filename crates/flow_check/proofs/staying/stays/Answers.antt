@@ -8,6 +8,5 @@ use Rattle.flow_check.proofs.staying.stays.Goals as goal
 pub all_with-requires-clause-set : goal.all_with-requires-clause-set
 all_with-requires-clause-set c =
     let g = c.args.group.now in
-    let k = c.in-With.component in
-    subst (λ (e : NumberedEntry). HasSetFor e (ends.With k c.as_slice-in-With.result.now)) (sym c.in_ok-entry-in-With.ensures)
-    (subst (λ (xs : List NumberEnd). HasSetFor g.entry (ends.With k xs)) (sym c.as_slice-in-With.ensures) (subst (HasSetFor g.entry) c.in-With.is c.requires.set))
+    subst (λ (e : NumberedEntry). HasSetFor e (ends.With c.as_slice-in-With.result.now)) (sym c.in_ok-entry-in-With.ensures)
+    (subst (λ (xs : List NumberEnd). HasSetFor g.entry (ends.With xs)) (sym c.as_slice-in-With.ensures) (subst (HasSetFor g.entry) c.in-With.is c.requires.set))

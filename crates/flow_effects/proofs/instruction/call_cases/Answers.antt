@@ -13,5 +13,5 @@ pub returns-in-ShutdownOs : goal.returns-in-ShutdownOs
 returns-in-ShutdownOs c =
     let is = c.requires.kind ∙ ap (λ (x : Call). kind.Call x) c.in-ShutdownOs.is in
     ok_list (AreCasesOf c.args.app.now (runner_point c.args.runner c.args.block)) _ _ c.halts.result c.halts.ensures
-    (ap (λ (x : Block). halts c.args.runner x.next) c.block.ensures)
+    (ap (λ (x : Block). halts c.args.app.now c.args.runner x.next) c.block.ensures)
     (halt_cases c.args.app.now c.args.runner c.args.block c.requires.owns is)

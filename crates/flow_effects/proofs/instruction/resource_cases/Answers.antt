@@ -7,8 +7,14 @@ use Rattle.osek_standard.specs.declared.call.ResourceService.{ResourceService}
 use Rattle.flow_effects.specs.Resources.{get_cases, release_cases}
 use Rattle.flow_effects.proofs.ResourceCases.{all_gets, all_releases}
 use Rattle.flow_model.specs.{Runners.{runner_point}, Effects.{AreCasesOf}}
-use Rattle.flow_effects.proofs.Listed.{ok_list}
+use Rattle.flow_effects.proofs.Listed.{ok_list, owner_known}
 use Rattle.flow_effects.proofs.instruction.resource_cases.Goals as goal
+
+pub get_cases-requires-clause-known : goal.get_cases-requires-clause-known
+get_cases-requires-clause-known c = owner_known c.args.app.now c.args.runner c.args.block c.requires.owns
+
+pub release_cases-requires-clause-known : goal.release_cases-requires-clause-known
+release_cases-requires-clause-known c = owner_known c.args.app.now c.args.runner c.args.block c.requires.owns
 
 pub returns-in-GetResource : goal.returns-in-GetResource
 returns-in-GetResource c =

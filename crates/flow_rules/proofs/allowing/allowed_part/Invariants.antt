@@ -1,5 +1,5 @@
 use Rattle.flow_rules.proofs.AllowedSets.{ArePartsUpTo}
 use Rattle.flow_rules.proofs.allowing.allowed_part.Given as goal
 
-abbrev pub invariant-loop-component : goal.invariant-loop-component
-invariant-loop-component l = ArePartsUpTo l.app l.point l.entry l.component l.sets
+abbrev pub invariant-loop-place : goal.invariant-loop-place
+invariant-loop-place l = ArePartsUpTo l.app l.point l.entry l.place l.sets

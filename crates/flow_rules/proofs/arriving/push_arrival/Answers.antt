@@ -5,7 +5,7 @@ use Rattle.flow_model.specs.{declared.rule.Rule.{Rule}, Rules.{Applies, HasNone}
 use Rattle.numbered_sets.specs.{declared.numbered_entry.NumberedEntry.{NumberedEntry}, NumberedEntries.{number_domains}, Views.{plain_entry, AreNumbersOf}}
 use Rattle.flow_rules.specs.declared.group.Ends.TheVariants as ends
 use Rattle.flow_rules.specs.Leaving.{AddsRoutines}
-use Rattle.flow_rules.proofs.{LeavingPoints.{sets_counted, numbers_counted, applied_filled}, ArrivingGroups.{routine_skipped, routine_begins}}
+use Rattle.flow_rules.proofs.{EntryCounts.{sets_counted, numbers_counted, applied_filled}, ArrivingGroups.{routine_skipped, routine_begins}}
 use Rattle.flow_rules.proofs.arriving.push_arrival.Goals as goal
 
 pub returns-in_default-clause-added : goal.returns-in_default-clause-added

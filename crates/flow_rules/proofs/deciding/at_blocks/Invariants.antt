@@ -1,4 +1,5 @@
 use Rattle.std.proofs.Common.{◌-◌, ◌≤◌, ◌<◌, IsTrue}
+use Rattle.flow_model.specs.Runners.{component_of}
 use Rattle.numbered_sets.specs.{Numbers.{has_number}, NumberedEntries.{numbers_at}}
 use Rattle.flow_rules.proofs.BlockLaws.{AreBlocksBelow}
 use Rattle.flow_rules.proofs.deciding.at_blocks.Given as goal
@@ -7,4 +8,4 @@ abbrev pub decreases-loop-number : goal.decreases-loop-number
 decreases-loop-number l = l.count - l.number
 
 abbrev pub invariant-loop-number : goal.invariant-loop-number
-invariant-loop-number l = AreBlocksBelow l.pool l.entry l.component l.number l.ends × (l.number ≤ l.count) × (l.number < l.count → IsTrue (has_number (numbers_at l.entry l.component) l.number))
+invariant-loop-number l = AreBlocksBelow l.pool l.entry l.runner l.number l.ends × (l.number ≤ l.count) × (l.number < l.count → IsTrue (has_number (numbers_at l.entry (component_of l.runner)) l.number))

@@ -4,7 +4,7 @@ use Rattle.flow_model.specs.Effects.{AreAllAllowed}
 use Rattle.numbered_sets.specs.Views.{plain_entry}
 use Rattle.numbered_sets.proofs.ViewLaws.{same_view, still_known}
 use Rattle.flow_rules.specs.{declared.group.ExitGroup.{ExitGroup}, Leaving.{AddsArrivals, AddsInstructions}}
-use Rattle.flow_rules.proofs.{LevelLaws.{levels_longer}, LeavingPoints.{passive_exits, executing_exits}}
+use Rattle.flow_rules.proofs.LeavingPoints.{passive_exits, executing_exits}
 use Rattle.flow_rules.proofs.exits.exit_groups.Goals as goal
 
 pub returns-in-None-clause-exits : goal.returns-in-None-clause-exits
@@ -16,18 +16,12 @@ returns-in-None-clause-exits c =
     passive_exits app p entry c.in-None.ensures.none pool c.push_arrivals.new.pool c.push_arrivals.new.groups.items
     (subst (λ (gs : List ExitGroup). AddsArrivals app p entry pool gs c.push_arrivals.new.pool c.push_arrivals.new.groups.items) c.new-groups.ensures.items c.in_ok-push_arrivals.ensures.added)
 
-pub returns-in-None-clause-levels : goal.returns-in-None-clause-levels
-returns-in-None-clause-levels c = levels_longer c.args.app.now c.args.pool.now c.push_arrivals.new.pool c.args.levels.now c.push_arrivals.ensures.pool c.requires.levels
-
 pub push_instructions-requires-clause-numbers : goal.push_instructions-requires-clause-numbers
 push_instructions-requires-clause-numbers c = still_known c.args.pool.now c.push_arrivals.new.pool c.args.entry.now c.push_arrivals.ensures.pool c.requires.numbers
 
 pub push_instructions-requires-clause-allowed : goal.push_instructions-requires-clause-allowed
 push_instructions-requires-clause-allowed c =
     subst (AreAllAllowed c.args.app.now c.args.point) (sym (same_view c.args.pool.now c.push_arrivals.new.pool c.args.entry.now c.push_arrivals.ensures.pool c.requires.numbers)) c.requires.allowed
-
-pub push_instructions-requires-clause-levels : goal.push_instructions-requires-clause-levels
-push_instructions-requires-clause-levels c = levels_longer c.args.app.now c.args.pool.now c.push_arrivals.new.pool c.args.levels.now c.push_arrivals.ensures.pool c.requires.levels
 
 pub push_instructions-requires-clause-known : goal.push_instructions-requires-clause-known
 push_instructions-requires-clause-known c = c.in_ok-push_arrivals.ensures.added.added.known

@@ -9,7 +9,7 @@ use Rattle.flow_exits.specs.Leaving.{effect_rule}
 use Rattle.flow_rules.specs.Assembly.{AreAllAdded}
 use Rattle.flow_rules.proofs.PointRules.{none_added, added_on}
 use Rattle.flow_rules.specs.{Applying.{KeepsDomains}, Allowed.{IsAllowedPart}}
-use Rattle.flow_rules.proofs.{EffectDomains.{effect_keeps_domains}, LeavingPoints.{numbers_counted, pool_counted, pool_has_tasks}, RuledExits.{rules_added}}
+use Rattle.flow_rules.proofs.{EffectDomains.{effect_keeps_domains}, EntryCounts.{numbers_counted, pool_counted, pool_has_tasks}, OutLaws.{none_out}, RuledExits.{rules_added}}
 use Rattle.flow_rules.proofs.RuledPoints.{all_allowed, allowed_there, from_domains, from_sound}
 use Rattle.flow_rules.proofs.ruling.add_instructions.Goals as goal
 
@@ -18,6 +18,10 @@ plain-requires c =
     let sets = numbers_counted c.args.app.now c.args.entry.now c.requires.domains in
     let pool = pool_counted c.args.app.now c.args.pool.now c.args.entry.now c.requires.domains c.requires.numbers.domains in
     omega (arith, sets, pool)
+
+pub allowed_part-requires : goal.allowed_part-requires
+allowed_part-requires c =
+    subst (λ (e : PlainEntry). domains e ≡ domains_of c.args.app.now) (sym c.in_ok-plain.ensures) (same_domains c.args.pool.now 0 c.args.entry.now.sets ∙ c.requires.domains)
 
 pub numbered-requires-clause-domains : goal.numbered-requires-clause-domains
 numbered-requires-clause-domains c =
@@ -117,7 +121,7 @@ returns c =
     record {
       effects = c.in_ok-effects.effects;
       stays = c.in_ok-effects.ensures.stays;
-      covering = c.in_ok-effects.ensures.covering plain alike;
+      covering = c.in_ok-effects.ensures.covering plain alike (none_out app plain);
       exact = c.in_ok-effects.ensures.exact plain alike;
       added = subst (λ (xs : List EffectCase). AreAllAdded app c.args.point plain xs c.args.rules.now c.loop-effect.rules) whole c.loop-effect.invariant.added;
     }

@@ -1,5 +1,5 @@
 use Rattle.std.proofs.Common.{◌∙◌}
-use Rattle.flow_rules.proofs.StartEntry.{listed_component, part_there}
+use Rattle.flow_rules.proofs.{BarredValues.{listed_component}, StartEntry.{part_there}}
 use Rattle.flow_rules.proofs.state_row.entry_of.Goals as goal
 
 pub domain_of-domain-requires : goal.domain_of-domain-requires

@@ -21,4 +21,4 @@ returns-in_ok-put_ends-in-With c = λ pool.
     let before = c.args.points.now.items in
     let after = c.put_ends.new.points.items in
     subst (λ (x : Ends). AreEndsPut p (exits_by pool g x) before after) (sym c.in-With.is)
-    (put_with_numbers p pool g _ c.in-With.ends before after (subst (λ (xs : List NumberEnd). ArePutAfter p g.decision (map end_target xs) before after) c.as_slice-in-With.ensures c.in_ok-put_ends-in-With.ensures))
+    (put_with_numbers p pool g c.in-With.ends before after (subst (λ (xs : List NumberEnd). ArePutAfter p g.decision (map end_target xs) before after) c.as_slice-in-With.ensures c.in_ok-put_ends-in-With.ensures))

@@ -1,6 +1,6 @@
 use Rattle.std.proofs.Common.{Some, subst}
 use Rattle.numbered_sets.specs.{declared.loads.Load.{Load}, Slots.{IsLoadNumber}}
-use Rattle.numbered_sets.proofs.{SlotLaws.{live_slot}, LoadLaws.{more_by_one}}
+use Rattle.numbered_sets.proofs.{TaskSlots.{live_slot}, LoadLaws.{more_by_one}}
 use Rattle.numbered_sets.proofs.slot_values.slot_for_live.Goals as goal
 
 pub returns-in-Some-clause-loads : goal.returns-in-Some-clause-loads

@@ -1,6 +1,6 @@
 use Rattle.std.proofs.Common.{◌≢◌, ℕ, ◌<◌, length, get_or, subst}
 use Rattle.numbered_sets.specs.{declared.loads.Load.{Load}, Slots.{no_load, IsLoadNumber}}
-use Rattle.numbered_sets.proofs.SlotLaws.{live_slot, no_load_slot}
+use Rattle.numbered_sets.proofs.TaskSlots.{live_slot, no_load_slot}
 use Rattle.numbered_sets.proofs.slot_values.slot_of_live.Goals as goal
 
 pub returns-in-Some-clause-slot : goal.returns-in-Some-clause-slot

@@ -2,7 +2,7 @@ use Rattle.std.proofs.Common.{sym, subst}
 use Rattle.std.specs.Prelude.{IfSome}
 use Rattle.abstract_state.specs.declared.value.Val.{Val}
 use Rattle.numbered_sets.specs.Slots.{IsTaskSlotOf}
-use Rattle.numbered_sets.proofs.SlotLaws.{waiting_slot}
+use Rattle.numbered_sets.proofs.TaskSlots.{waiting_slot}
 use Rattle.numbered_sets.proofs.slot_values.slot_of_val.Goals as goal
 
 pub returns-in-Waiting-clause-slot : goal.returns-in-Waiting-clause-slot

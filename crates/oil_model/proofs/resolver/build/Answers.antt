@@ -34,7 +34,7 @@ returns c =
     λ i. record {
       hooks = c.hooks.ensures i;
       tasks = (c.in_ok-tasks.ensures ∙ (λ j. map (task (modes_of_tasks j) (events_of_tasks j) (resources_of_tasks j)) (objects_of (codes "TASK") objects))) i;
-      isrs = c.in_ok-category_2_isrs.ensures i;
+      isrs = c.in_ok-isrs.ensures i;
       category_1_isrs = c.in_ok-category_1_isrs.ensures i;
       counters = c.in_ok-counters.ensures i;
       alarms = (c.in_ok-alarms.ensures ∙ (λ j. map (alarm (names_of (codes "COUNTER") objects) (names_of (codes "TASK") objects) (modes_of_alarms j) (events_of_alarms j)) (objects_of (codes "ALARM") objects))) i;
@@ -45,6 +45,9 @@ returns c =
 
 pub counters-requires : goal.counters-requires
 counters-requires c = record { allowed = c.requires.allowed; inside = c.requires.inside }
+
+pub isrs-requires : goal.isrs-requires
+isrs-requires c = c.requires.allowed
 
 pub resources-requires : goal.resources-requires
 resources-requires c = c.requires.allowed

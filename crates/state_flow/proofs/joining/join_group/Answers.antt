@@ -13,9 +13,9 @@ join_at-requires-clause-proper c =
 pub join_with-requires-clause-ends : goal.join_with-requires-clause-ends
 join_with-requires-clause-ends c x m =
     let known = subst (AreKnownEnds c.args.pool.now c.args.group.entry) c.in-With.is c.requires.known.ends in
-    known.1 x (subst (λ (xs : List NumberEnd). Contains xs x) c.as_slice-in-With.ensures m)
+    known x (subst (λ (xs : List NumberEnd). Contains xs x) c.as_slice-in-With.ensures m)
 
 pub join_with-requires-clause-proper : goal.join_with-requires-clause-proper
 join_with-requires-clause-proper c =
-    subst (λ (xs : List NumberEnd). AreProperRows c.args.app.now (rows_with c.args.pool.now c.args.group.entry c.in-With.component xs)) (sym c.as_slice-in-With.ensures)
+    subst (λ (xs : List NumberEnd). AreProperRows c.args.app.now (rows_with c.args.pool.now c.args.group.entry xs)) (sym c.as_slice-in-With.ensures)
     (subst (λ (e : Ends). AreProperRows c.args.app.now (rows_by c.args.pool.now c.args.group.entry e)) c.in-With.is c.requires.proper)

@@ -4,7 +4,7 @@ use Rattle.flow_model.specs.Rules.{Applies}
 use Rattle.numbered_sets.specs.{declared.numbered_entry.NumberedEntry.{NumberedEntry}, NumberedEntries.{number_domains}, Views.{plain_entry, AreNumbersOf}}
 use Rattle.numbered_sets.proofs.ViewLaws.{same_view, still_known}
 use Rattle.flow_exits.specs.Leaving.{effect_rule}
-use Rattle.flow_rules.proofs.{LevelLaws.{levels_longer}, LeavingPoints.{numbers_counted, pool_has_tasks, task_domains, applied_filled}}
+use Rattle.flow_rules.proofs.{LevelLaws.{levels_longer}, EntryCounts.{numbers_counted, pool_has_tasks, task_domains, applied_filled}}
 use Rattle.flow_rules.proofs.before_effect.BeforeEffect.after.Goals as goal
 
 pub returns-in_default-clause-levels : goal.returns-in_default-clause-levels

@@ -5,7 +5,7 @@ use Rattle.flow_model.specs.Rules.{HasNone}
 use Rattle.numbered_sets.specs.{declared.numbered_entry.NumberedEntry.{NumberedEntry}, Views.{plain_entry}}
 use Rattle.flow_exits.specs.Leaving.{effect_rule}
 use Rattle.flow_rules.specs.{Deciding.{AddsFor, IsAny}, Leaving.{IsAfter}, Settling.{AreSettledFrom}}
-use Rattle.flow_rules.proofs.{GrowingPools.{groups_known}, LeavingPoints.{sets_counted, pool_has_tasks}, AddingEffects.{effect_added, effect_skipped}}
+use Rattle.flow_rules.proofs.{GrowingPools.{groups_known}, EntryCounts.{sets_counted, pool_has_tasks}, AddingEffects.{effect_added, effect_skipped}}
 use Rattle.flow_rules.proofs.SettledGroups.{decided_known, decided_more, settled_decided, settled_groups_known}
 use Rattle.flow_rules.proofs.before_effect.BeforeEffect.push_effect.Goals as goal
 

@@ -1,10 +1,11 @@
-use Rattle.std.proofs.Common.{◌≡◌, ◌∷◌, [], List, ◌∙◌, sym, subst}
+use Rattle.std.proofs.Common.{◌≡◌, ◌∷◌, [], Bool, List, ◌∙◌, sym, subst}
 use Rattle.std.specs.Prelude.{Contains}
 use Rattle.std.proofs.lemmas.List.{take_all}
 use Rattle.abstract_state.specs.{declared.table.PlainEntry.{PlainEntry}, Domains.{domains, domains_of}}
 use Rattle.flow_model.specs.declared.case.EffectCase.{EffectCase}
 use Rattle.numbered_sets.specs.Views.{plain_entry}
 use Rattle.numbered_sets.proofs.ViewLaws.{same_view, same_domains}
+use Rattle.flow_effects.specs.Outs.{AreOutIn}
 use Rattle.flow_exits.specs.Leaving.{effect_rule}
 use Rattle.flow_rules.specs.{Applying.{KeepsDomains}, Leaving.{AddsEffects}}
 use Rattle.flow_rules.proofs.{AddingEffects.{effects_on}, EffectDomains.{effect_keeps_domains}}
@@ -50,7 +51,7 @@ returns-clause-added c =
     record {
       effects = c.in_ok-effects.effects;
       stays = c.in_ok-effects.ensures.stays;
-      covering = c.in_ok-effects.ensures.covering plain alike;
+      covering = c.in_ok-effects.ensures.covering plain alike (subst (λ (xs : List Bool). AreOutIn app xs plain) (sym c.as_slice.ensures) c.in_ok-outs.ensures);
       exact = c.in_ok-effects.ensures.exact plain alike;
       added = subst (λ (xs : List EffectCase). AddsEffects app plain xs pool c.args.groups.now.items c.loop-effect.pool c.loop-effect.groups.items) whole c.loop-effect.invariant.added;
     }

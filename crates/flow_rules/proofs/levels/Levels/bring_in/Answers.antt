@@ -11,6 +11,7 @@ pub loop-place-init : goal.loop-place-init
 loop-place-init c = record {
   longer = longer_itself c.args.pool.now;
   same = refl;
+  kept = refl;
   size = refl;
   insides = c.requires.levels.insides;
   all = λ k d lt. absurd (omega (arith, lt));
@@ -56,6 +57,7 @@ loop-place-preserved c =
     record {
       longer = longer_onward c.args.pool.now pool after inv.longer c.renew.ensures.pool;
       same = inv.same;
+      kept = inv.kept;
       size = length-set insides i x ∙ inv.size;
       insides = insides_next pool after insides (set insides i x) i x lt refl app inv.insides c.renew.ensures.pool task inside;
       all = complete_next pool after insides (set insides i x) i x lt refl app inv.insides c.renew.ensures.pool task inside
@@ -66,7 +68,7 @@ loop-place-preserved c =
 pub returns-clause-levels : goal.returns-clause-levels
 returns-clause-levels c =
     let inv = c.loop-place.invariant in
-    levels_beside c.args.app.now c.loop-place.pool c.args.self.now c.loop-place.self inv.same inv.insides
+    levels_beside c.args.app.now c.loop-place.pool c.args.self.now c.loop-place.self inv.same inv.kept inv.insides
     (levels_longer c.args.app.now c.args.pool.now c.loop-place.pool c.args.self.now inv.longer c.requires.levels)
 
 pub returns-clause-all : goal.returns-clause-all

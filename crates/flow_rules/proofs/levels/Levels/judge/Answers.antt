@@ -18,10 +18,10 @@ loop-task-preserved c =
     let u = c.loop-task.task in
     let known : u < length app.tasks = omega (arith, c.loop-task-test.true, c.len-task-end.ensures) in
     let so_far = c.loop-task.invariant in
-    let after : Levels = record { tasks = set c.loop-task.self.tasks u c.renew.new.self; insides = c.loop-task.self.insides } in
+    let after : Levels = record { tasks = set c.loop-task.self.tasks u c.renew.new.self; insides = c.loop-task.self.insides; arrivals = c.loop-task.self.arrivals } in
     record {
-      are = levels_with app pool c.loop-task.self after u c.renew.new.self so_far.are known refl refl c.in_ok-renew.ensures.levels;
-      judged = judged_with app pool c.loop-task.self after u c.renew.new.self so_far.are known refl refl c.in_ok-renew.ensures.levels c.in_ok-renew.ensures.all so_far.judged;
+      are = levels_with app pool c.loop-task.self after u c.renew.new.self so_far.are known refl refl refl c.in_ok-renew.ensures.levels;
+      judged = judged_with app pool c.loop-task.self after u c.renew.new.self so_far.are known refl refl refl c.in_ok-renew.ensures.levels c.in_ok-renew.ensures.all so_far.judged;
       same = so_far.same;
     }
 

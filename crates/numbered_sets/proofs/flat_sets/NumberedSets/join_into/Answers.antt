@@ -8,47 +8,47 @@ use Rattle.numbered_sets.proofs.flat_sets.NumberedSets.join_into.Goals as goal
 
 pub join-low-requires-clause-room : goal.join-low-requires-clause-room
 join-low-requires-clause-room c =
-    let many = as_many c.self.inside.domains.items c.self.inside.low.items c.self.inside.high.items c.self.inside.more c.args.self.now c.self.view_is in
-    let many_too = as_many c.other.inside.domains.items c.other.inside.low.items c.other.inside.high.items c.other.inside.more c.args.other.now c.other.view_is in
+    let many = as_many c.self.inside.domains.value.items c.self.inside.low.items c.self.inside.high.items c.self.inside.more c.args.self.now c.self.view_is in
+    let many_too = as_many c.other.inside.domains.value.items c.other.inside.low.items c.other.inside.high.items c.other.inside.more c.args.other.now c.other.view_is in
     let mine = ap length c.as_mut_slice.ensures.value in
     let its = ap length c.as_slice-5.ensures.value in
     omega (arith, many, many_too, mine, its, c.requires.as_many, c.self.invariant.0, c.other.invariant.0)
 
 pub join-low-requires-clause-few : goal.join-low-requires-clause-few
 join-low-requires-clause-few c =
-    let count = flat_count c.other.inside.domains.items c.other.inside.low.items c.other.inside.high.items c.other.inside.more c.other.invariant.0 c.other.invariant.1 c.other.invariant.2 (subst (λ (ws : List ℕ). AreWords ws) c.as_slice-3.ensures.value c.are_words-3.ensures) (subst (λ (ws : List ℕ). AreWords ws) c.as_slice-4.ensures.value c.are_words-4.ensures) in
-    let whole : all_numbers (flat_sets c.other.inside.domains.items c.other.inside.low.items c.other.inside.high.items c.other.inside.more) ≡ all_numbers c.args.other.now = ap all_numbers c.other.view_is in
+    let count = flat_count c.other.inside.domains.value.items c.other.inside.low.items c.other.inside.high.items c.other.inside.more c.other.invariant.0 c.other.invariant.1 c.other.invariant.2 (subst (λ (ws : List ℕ). AreWords ws) c.as_slice-3.ensures.value c.are_words-3.ensures) (subst (λ (ws : List ℕ). AreWords ws) c.as_slice-4.ensures.value c.are_words-4.ensures) in
+    let whole : all_numbers (flat_sets c.other.inside.domains.value.items c.other.inside.low.items c.other.inside.high.items c.other.inside.more) ≡ all_numbers c.args.other.now = ap all_numbers c.other.view_is in
     let low = ap (λ (ws : List ℕ). count_ones (bits_of_words ws)) c.as_slice-5.ensures.value in
     omega (arith, count, whole, low, c.requires.few)
 
 pub join-high-requires-clause-room : goal.join-high-requires-clause-room
 join-high-requires-clause-room c =
-    let many = as_many c.self.inside.domains.items c.self.inside.low.items c.self.inside.high.items c.self.inside.more c.args.self.now c.self.view_is in
-    let many_too = as_many c.other.inside.domains.items c.other.inside.low.items c.other.inside.high.items c.other.inside.more c.args.other.now c.other.view_is in
+    let many = as_many c.self.inside.domains.value.items c.self.inside.low.items c.self.inside.high.items c.self.inside.more c.args.self.now c.self.view_is in
+    let many_too = as_many c.other.inside.domains.value.items c.other.inside.low.items c.other.inside.high.items c.other.inside.more c.args.other.now c.other.view_is in
     let mine = ap length c.as_mut_slice-2.ensures.value in
     let its = ap length c.as_slice-6.ensures.value in
     omega (arith, many, many_too, mine, its, c.requires.as_many, c.self.invariant.1, c.other.invariant.1)
 
 pub join-high-requires-clause-few : goal.join-high-requires-clause-few
 join-high-requires-clause-few c =
-    let count = flat_count c.other.inside.domains.items c.other.inside.low.items c.other.inside.high.items c.other.inside.more c.other.invariant.0 c.other.invariant.1 c.other.invariant.2 (subst (λ (ws : List ℕ). AreWords ws) c.as_slice-3.ensures.value c.are_words-3.ensures) (subst (λ (ws : List ℕ). AreWords ws) c.as_slice-4.ensures.value c.are_words-4.ensures) in
-    let whole : all_numbers (flat_sets c.other.inside.domains.items c.other.inside.low.items c.other.inside.high.items c.other.inside.more) ≡ all_numbers c.args.other.now = ap all_numbers c.other.view_is in
+    let count = flat_count c.other.inside.domains.value.items c.other.inside.low.items c.other.inside.high.items c.other.inside.more c.other.invariant.0 c.other.invariant.1 c.other.invariant.2 (subst (λ (ws : List ℕ). AreWords ws) c.as_slice-3.ensures.value c.are_words-3.ensures) (subst (λ (ws : List ℕ). AreWords ws) c.as_slice-4.ensures.value c.are_words-4.ensures) in
+    let whole : all_numbers (flat_sets c.other.inside.domains.value.items c.other.inside.low.items c.other.inside.high.items c.other.inside.more) ≡ all_numbers c.args.other.now = ap all_numbers c.other.view_is in
     let low = ap (λ (ws : List ℕ). count_ones (bits_of_words ws)) c.as_slice-5.ensures.value in
     let high = ap (λ (ws : List ℕ). count_ones (bits_of_words ws)) c.as_slice-6.ensures.value in
     omega (arith, count, whole, high, c.requires.few)
 
 pub join-further-requires-clause-few : goal.join-further-requires-clause-few
 join-further-requires-clause-few c =
-    let count = flat_count c.other.inside.domains.items c.other.inside.low.items c.other.inside.high.items c.other.inside.more c.other.invariant.0 c.other.invariant.1 c.other.invariant.2 (subst (λ (ws : List ℕ). AreWords ws) c.as_slice-3.ensures.value c.are_words-3.ensures) (subst (λ (ws : List ℕ). AreWords ws) c.as_slice-4.ensures.value c.are_words-4.ensures) in
-    let whole : all_numbers (flat_sets c.other.inside.domains.items c.other.inside.low.items c.other.inside.high.items c.other.inside.more) ≡ all_numbers c.args.other.now = ap all_numbers c.other.view_is in
+    let count = flat_count c.other.inside.domains.value.items c.other.inside.low.items c.other.inside.high.items c.other.inside.more c.other.invariant.0 c.other.invariant.1 c.other.invariant.2 (subst (λ (ws : List ℕ). AreWords ws) c.as_slice-3.ensures.value c.are_words-3.ensures) (subst (λ (ws : List ℕ). AreWords ws) c.as_slice-4.ensures.value c.are_words-4.ensures) in
+    let whole : all_numbers (flat_sets c.other.inside.domains.value.items c.other.inside.low.items c.other.inside.high.items c.other.inside.more) ≡ all_numbers c.args.other.now = ap all_numbers c.other.view_is in
     let low = ap (λ (ws : List ℕ). count_ones (bits_of_words ws)) c.as_slice-5.ensures.value in
     let high = ap (λ (ws : List ℕ). count_ones (bits_of_words ws)) c.as_slice-6.ensures.value in
     omega (arith, count, whole, c.requires.few)
 
 pub overflow_add-result : goal.overflow_add-result
 overflow_add-result c =
-    let count = flat_count c.other.inside.domains.items c.other.inside.low.items c.other.inside.high.items c.other.inside.more c.other.invariant.0 c.other.invariant.1 c.other.invariant.2 (subst (λ (ws : List ℕ). AreWords ws) c.as_slice-3.ensures.value c.are_words-3.ensures) (subst (λ (ws : List ℕ). AreWords ws) c.as_slice-4.ensures.value c.are_words-4.ensures) in
-    let whole : all_numbers (flat_sets c.other.inside.domains.items c.other.inside.low.items c.other.inside.high.items c.other.inside.more) ≡ all_numbers c.args.other.now = ap all_numbers c.other.view_is in
+    let count = flat_count c.other.inside.domains.value.items c.other.inside.low.items c.other.inside.high.items c.other.inside.more c.other.invariant.0 c.other.invariant.1 c.other.invariant.2 (subst (λ (ws : List ℕ). AreWords ws) c.as_slice-3.ensures.value c.are_words-3.ensures) (subst (λ (ws : List ℕ). AreWords ws) c.as_slice-4.ensures.value c.are_words-4.ensures) in
+    let whole : all_numbers (flat_sets c.other.inside.domains.value.items c.other.inside.low.items c.other.inside.high.items c.other.inside.more) ≡ all_numbers c.args.other.now = ap all_numbers c.other.view_is in
     let low = ap (λ (ws : List ℕ). count_ones (bits_of_words ws)) c.as_slice-5.ensures.value in
     let high = ap (λ (ws : List ℕ). count_ones (bits_of_words ws)) c.as_slice-6.ensures.value in
     let fits : c.join-low.result + c.join-high.result + c.join-further.result < 2 ^ 64 = omega (arith, count, whole, low, high, c.join-low.ensures.few, c.join-high.ensures.few, c.join-further.ensures.few, c.requires.few) in
@@ -56,20 +56,20 @@ overflow_add-result c =
 
 pub overflow_add-result-2 : goal.overflow_add-result-2
 overflow_add-result-2 c =
-    let count = flat_count c.other.inside.domains.items c.other.inside.low.items c.other.inside.high.items c.other.inside.more c.other.invariant.0 c.other.invariant.1 c.other.invariant.2 (subst (λ (ws : List ℕ). AreWords ws) c.as_slice-3.ensures.value c.are_words-3.ensures) (subst (λ (ws : List ℕ). AreWords ws) c.as_slice-4.ensures.value c.are_words-4.ensures) in
-    let whole : all_numbers (flat_sets c.other.inside.domains.items c.other.inside.low.items c.other.inside.high.items c.other.inside.more) ≡ all_numbers c.args.other.now = ap all_numbers c.other.view_is in
+    let count = flat_count c.other.inside.domains.value.items c.other.inside.low.items c.other.inside.high.items c.other.inside.more c.other.invariant.0 c.other.invariant.1 c.other.invariant.2 (subst (λ (ws : List ℕ). AreWords ws) c.as_slice-3.ensures.value c.are_words-3.ensures) (subst (λ (ws : List ℕ). AreWords ws) c.as_slice-4.ensures.value c.are_words-4.ensures) in
+    let whole : all_numbers (flat_sets c.other.inside.domains.value.items c.other.inside.low.items c.other.inside.high.items c.other.inside.more) ≡ all_numbers c.args.other.now = ap all_numbers c.other.view_is in
     let low = ap (λ (ws : List ℕ). count_ones (bits_of_words ws)) c.as_slice-5.ensures.value in
     let high = ap (λ (ws : List ℕ). count_ones (bits_of_words ws)) c.as_slice-6.ensures.value in
     let fits : c.join-low.result + c.join-high.result + c.join-further.result < 2 ^ 64 = omega (arith, count, whole, low, high, c.join-low.ensures.few, c.join-high.ensures.few, c.join-further.ensures.few, c.requires.few) in
     search (rules, fits)
 
 pub invariant_of-self : goal.invariant_of-self
-invariant_of-self c = (let many = as_many c.self.inside.domains.items c.self.inside.low.items c.self.inside.high.items c.self.inside.more c.args.self.now c.self.view_is in let many_too = as_many c.other.inside.domains.items c.other.inside.low.items c.other.inside.high.items c.other.inside.more c.args.other.now c.other.view_is in (c.self.invariant.0, c.self.invariant.1, c.in_err-widen.ensures.few (length c.self.inside.domains.items) c.self.invariant.2 (omega (arith, many, many_too, c.requires.as_many, c.other.invariant.2))))
+invariant_of-self c = (let many = as_many c.self.inside.domains.value.items c.self.inside.low.items c.self.inside.high.items c.self.inside.more c.args.self.now c.self.view_is in let many_too = as_many c.other.inside.domains.value.items c.other.inside.low.items c.other.inside.high.items c.other.inside.more c.args.other.now c.other.view_is in (c.self.invariant.0, c.self.invariant.1, c.in_err-widen.ensures.few (length c.self.inside.domains.value.items) c.self.invariant.2 (omega (arith, many, many_too, c.requires.as_many, c.other.invariant.2))))
 
 pub returns-in_err-widen-clause-err : goal.returns-in_err-widen-clause-err
 returns-in_err-widen-clause-err c =
-    let same : flat_sets c.self.inside.domains.items c.self.inside.low.items c.self.inside.high.items c.widen.new.more ≡ c.args.self.now =
-    flat_same_further c.self.inside.domains.items c.self.inside.low.items c.self.inside.high.items c.self.inside.more c.widen.new.more (λ k. c.in_err-widen.ensures.same k) ∙ c.self.view_is in
+    let same : flat_sets c.self.inside.domains.value.items c.self.inside.low.items c.self.inside.high.items c.widen.new.more ≡ c.args.self.now =
+    flat_same_further c.self.inside.domains.value.items c.self.inside.low.items c.self.inside.high.items c.self.inside.more c.widen.new.more (λ k. c.in_err-widen.ensures.same k) ∙ c.self.view_is in
     search (rules, same)
 
 pub invariant_of-self-2 : goal.invariant_of-self-2
@@ -82,9 +82,9 @@ invariant_of-self-2 c =
     let second = ap length high_is in
     let mine = ap length c.as_mut_slice.ensures.value in
     let mine_too = ap length c.as_mut_slice-2.ensures.value in
-    let many = as_many c.self.inside.domains.items c.self.inside.low.items c.self.inside.high.items c.self.inside.more c.args.self.now c.self.view_is in
-    let many_too = as_many c.other.inside.domains.items c.other.inside.low.items c.other.inside.high.items c.other.inside.more c.args.other.now c.other.view_is in
-    let third = c.in_ok-widen.ensures.few (length c.self.inside.domains.items) c.self.invariant.2 (omega (arith, many, many_too, c.requires.as_many, c.other.invariant.2)) in
+    let many = as_many c.self.inside.domains.value.items c.self.inside.low.items c.self.inside.high.items c.self.inside.more c.args.self.now c.self.view_is in
+    let many_too = as_many c.other.inside.domains.value.items c.other.inside.low.items c.other.inside.high.items c.other.inside.more c.args.other.now c.other.view_is in
+    let third = c.in_ok-widen.ensures.few (length c.self.inside.domains.value.items) c.self.invariant.2 (omega (arith, many, many_too, c.requires.as_many, c.other.invariant.2)) in
     (omega (arith, first, mine, c.join-low.auto.words, c.self.invariant.0), omega (arith, second, mine_too, c.join-high.auto.words, c.self.invariant.1), omega (arith, third, c.join-further.ensures.as_many))
 
 pub returns-clause-sets : goal.returns-clause-sets
@@ -97,7 +97,7 @@ returns-clause-sets c =
     (λ i. ap (λ (ws : List ℕ). get_or ws i 0) low_is ∙ c.join-low.ensures.words i ∙ ap₂ (λ (ws us : List ℕ). bit_or (get_or ws i 0) (get_or us i 0)) c.as_mut_slice.ensures.value c.as_slice-5.ensures.value) in
     let highs : AreWordsJoined c.self.inside.high.items c.other.inside.high.items (with_items c.self.inside.high c.join-high.new.words).items =
     (λ i. ap (λ (ws : List ℕ). get_or ws i 0) high_is ∙ c.join-high.ensures.words i ∙ ap₂ (λ (ws us : List ℕ). bit_or (get_or ws i 0) (get_or us i 0)) c.as_mut_slice-2.ensures.value c.as_slice-6.ensures.value) in
-    flat_joined c.self.inside.domains.items c.other.inside.domains.items c.self.inside.low.items c.self.inside.high.items c.other.inside.low.items c.other.inside.high.items
+    flat_joined c.self.inside.domains.value.items c.other.inside.domains.value.items c.self.inside.low.items c.self.inside.high.items c.other.inside.low.items c.other.inside.high.items
     (with_items c.self.inside.low c.join-low.new.words).items (with_items c.self.inside.high c.join-high.new.words).items c.self.inside.more c.other.inside.more c.join-further.new.more
     c.args.self.now c.args.other.now c.self.view_is c.other.view_is c.requires.as_many
     (subst (λ (ws : List ℕ). AreWords ws) c.as_slice.ensures.value c.are_words.ensures) (subst (λ (ws : List ℕ). AreWords ws) c.as_slice-2.ensures.value c.are_words-2.ensures) (subst (λ (ws : List ℕ). AreWords ws) c.as_slice-3.ensures.value c.are_words-3.ensures) (subst (λ (ws : List ℕ). AreWords ws) c.as_slice-4.ensures.value c.are_words-4.ensures) lows highs
@@ -119,14 +119,14 @@ returns-clause-count c =
     let second = ap length high_is in
     let mine = ap length c.as_mut_slice.ensures.value in
     let mine_too = ap length c.as_mut_slice-2.ensures.value in
-    let many = as_many c.self.inside.domains.items c.self.inside.low.items c.self.inside.high.items c.self.inside.more c.args.self.now c.self.view_is in
-    let many_too = as_many c.other.inside.domains.items c.other.inside.low.items c.other.inside.high.items c.other.inside.more c.args.other.now c.other.view_is in
-    let third = c.in_ok-widen.ensures.few (length c.self.inside.domains.items) c.self.invariant.2 (omega (arith, many, many_too, c.requires.as_many, c.other.invariant.2)) in
-    let was = flat_count c.self.inside.domains.items c.self.inside.low.items c.self.inside.high.items c.self.inside.more c.self.invariant.0 c.self.invariant.1 c.self.invariant.2 (subst (λ (ws : List ℕ). AreWords ws) c.as_slice.ensures.value c.are_words.ensures) (subst (λ (ws : List ℕ). AreWords ws) c.as_slice-2.ensures.value c.are_words-2.ensures) in
-    let now = flat_count c.self.inside.domains.items new_low new_high c.join-further.new.more
+    let many = as_many c.self.inside.domains.value.items c.self.inside.low.items c.self.inside.high.items c.self.inside.more c.args.self.now c.self.view_is in
+    let many_too = as_many c.other.inside.domains.value.items c.other.inside.low.items c.other.inside.high.items c.other.inside.more c.args.other.now c.other.view_is in
+    let third = c.in_ok-widen.ensures.few (length c.self.inside.domains.value.items) c.self.invariant.2 (omega (arith, many, many_too, c.requires.as_many, c.other.invariant.2)) in
+    let was = flat_count c.self.inside.domains.value.items c.self.inside.low.items c.self.inside.high.items c.self.inside.more c.self.invariant.0 c.self.invariant.1 c.self.invariant.2 (subst (λ (ws : List ℕ). AreWords ws) c.as_slice.ensures.value c.are_words.ensures) (subst (λ (ws : List ℕ). AreWords ws) c.as_slice-2.ensures.value c.are_words-2.ensures) in
+    let now = flat_count c.self.inside.domains.value.items new_low new_high c.join-further.new.more
     (omega (arith, first, mine, c.join-low.auto.words, c.self.invariant.0)) (omega (arith, second, mine_too, c.join-high.auto.words, c.self.invariant.1)) (omega (arith, third, c.join-further.ensures.as_many))
     (words_joined c.self.inside.low.items c.other.inside.low.items new_low (subst (λ (ws : List ℕ). AreWords ws) c.as_slice.ensures.value c.are_words.ensures) (subst (λ (ws : List ℕ). AreWords ws) c.as_slice-3.ensures.value c.are_words-3.ensures) lows) (words_joined c.self.inside.high.items c.other.inside.high.items new_high (subst (λ (ws : List ℕ). AreWords ws) c.as_slice-2.ensures.value c.are_words-2.ensures) (subst (λ (ws : List ℕ). AreWords ws) c.as_slice-4.ensures.value c.are_words-4.ensures) highs) in
-    let whole : all_numbers (flat_sets c.self.inside.domains.items c.self.inside.low.items c.self.inside.high.items c.self.inside.more) ≡ all_numbers c.args.self.now = ap all_numbers c.self.view_is in
+    let whole : all_numbers (flat_sets c.self.inside.domains.value.items c.self.inside.low.items c.self.inside.high.items c.self.inside.more) ≡ all_numbers c.args.self.now = ap all_numbers c.self.view_is in
     let low : count_ones (bits_of_words new_low) ≡ count_ones (bits_of_words c.self.inside.low.items) + c.join-low.result =
     ap (λ (ws : List ℕ). count_ones (bits_of_words ws)) low_is ∙ c.join-low.ensures.count ∙ ap (λ (ws : List ℕ). count_ones (bits_of_words ws) + c.join-low.result) c.as_mut_slice.ensures.value in
     let high : count_ones (bits_of_words new_high) ≡ count_ones (bits_of_words c.self.inside.high.items) + c.join-high.result =

@@ -11,19 +11,19 @@ invariant_of-self c =
     let lows : (with_items c.self.inside.low c.replace.new.words).items ≡ set c.self.inside.low.items c.args.component (bit_and c.word_at-low.result c.other.inside.low) = written c.self.inside.low c.replace.new.words c.as_mut_slice.result.now c.args.component (bit_and c.word_at-low.result c.other.inside.low) (omega (arith, c.replace.auto.words, c.as_mut_slice.ensures.len)) c.replace.ensures c.as_mut_slice.ensures.value in
     let highs : (with_items c.self.inside.high c.replace-2.new.words).items ≡ set c.self.inside.high.items c.args.component (bit_and c.word_at-high.result c.other.inside.high) = written c.self.inside.high c.replace-2.new.words c.as_mut_slice-2.result.now c.args.component (bit_and c.word_at-high.result c.other.inside.high) (omega (arith, c.replace-2.auto.words, c.as_mut_slice-2.ensures.len)) c.replace-2.ensures c.as_mut_slice-2.ensures.value in
     let third = c.keep.ensures.others.as_many in
-    (still_long c.self.inside.domains.items c.self.inside.low.items _ c.args.component _ lows c.self.invariant.0, still_long c.self.inside.domains.items c.self.inside.high.items _ c.args.component _ highs c.self.invariant.1, omega (arith, third, c.self.invariant.2))
+    (still_long c.self.inside.domains.value.items c.self.inside.low.items _ c.args.component _ lows c.self.invariant.0, still_long c.self.inside.domains.value.items c.self.inside.high.items _ c.args.component _ highs c.self.invariant.1, omega (arith, third, c.self.invariant.2))
 
 pub returns : goal.returns
 returns c =
     let lows : (with_items c.self.inside.low c.replace.new.words).items ≡ set c.self.inside.low.items c.args.component (bit_and c.word_at-low.result c.other.inside.low) = written c.self.inside.low c.replace.new.words c.as_mut_slice.result.now c.args.component (bit_and c.word_at-low.result c.other.inside.low) (omega (arith, c.replace.auto.words, c.as_mut_slice.ensures.len)) c.replace.ensures c.as_mut_slice.ensures.value in
     let highs : (with_items c.self.inside.high c.replace-2.new.words).items ≡ set c.self.inside.high.items c.args.component (bit_and c.word_at-high.result c.other.inside.high) = written c.self.inside.high c.replace-2.new.words c.as_mut_slice-2.result.now c.args.component (bit_and c.word_at-high.result c.other.inside.high) (omega (arith, c.replace-2.auto.words, c.as_mut_slice-2.ensures.len)) c.replace-2.ensures c.as_mut_slice-2.ensures.value in
     let rest : further_bits c.keep.new.more c.args.component ≡ bit_and (further_bits c.self.inside.more c.args.component) (bits_of_words c.other.inside.more.items) = c.keep.ensures.bits ∙ ap (λ (ws : List ℕ). bit_and (further_bits c.self.inside.more c.args.component) (bits_of_words ws)) c.as_slice-3.ensures.value in
-    flat_put c.self.inside.domains.items c.self.inside.low.items c.self.inside.high.items c.self.inside.more c.args.self.now c.self.view_is c.args.component (bit_and c.word_at-low.result c.other.inside.low) (bit_and c.word_at-high.result c.other.inside.high) (bit_and (set_of c.args.self.now c.args.component).bits c.args.other.now.bits)
+    flat_put c.self.inside.domains.value.items c.self.inside.low.items c.self.inside.high.items c.self.inside.more c.args.self.now c.self.view_is c.args.component (bit_and c.word_at-low.result c.other.inside.low) (bit_and c.word_at-high.result c.other.inside.high) (bit_and (set_of c.args.self.now c.args.component).bits c.args.other.now.bits)
     (with_items c.self.inside.low c.replace.new.words).items (with_items c.self.inside.high c.replace-2.new.words).items c.keep.new.more lows highs c.self.invariant.0 c.self.invariant.1 c.requires
     (λ k differ. ap bits_of_words (c.keep.ensures.others.others k differ))
     (both_two c.word_at-low.result c.word_at-high.result c.other.inside.low c.other.inside.high (further_at c.self.inside.more c.args.component) c.other.inside.more.items (further_at c.keep.new.more c.args.component)
     c.word_at-low.ensures.fits c.word_at-high.ensures.fits c.are_two_words.ensures.low c.are_two_words.ensures.high rest
     ∙ ap₂ (λ (m n : ℕ). bit_and m n)
-    (read_is c.self.inside.domains.items c.self.inside.low.items c.self.inside.high.items c.self.inside.more c.args.self.now c.self.view_is c.self.invariant.0 c.self.invariant.1 c.self.invariant.2 c.args.component
+    (read_is c.self.inside.domains.value.items c.self.inside.low.items c.self.inside.high.items c.self.inside.more c.args.self.now c.self.view_is c.self.invariant.0 c.self.invariant.1 c.self.invariant.2 c.args.component
     c.word_at-low.result c.word_at-high.result c.as_slice.result.now c.as_slice-2.result.now (further_at c.self.inside.more c.args.component) c.as_slice.ensures.value c.as_slice-2.ensures.value c.word_at-low.ensures.word c.word_at-high.ensures.word refl)
     (ap (λ (x : Numbers). x.bits) c.other.view_is))

@@ -7,5 +7,5 @@ pub returns : goal.returns
 returns c =
     c.meets_words.ensures
     ∙ ap (λ (m : ℕ). not (bit_and m c.args.other.now.bits == 0))
-    (read_is c.self.inside.domains.items c.self.inside.low.items c.self.inside.high.items c.self.inside.more c.args.self.now c.self.view_is c.self.invariant.0 c.self.invariant.1 c.self.invariant.2 c.args.component
+    (read_is c.self.inside.domains.value.items c.self.inside.low.items c.self.inside.high.items c.self.inside.more c.args.self.now c.self.view_is c.self.invariant.0 c.self.invariant.1 c.self.invariant.2 c.args.component
     c.word_at.result c.word_at-2.result c.as_slice.result.now c.as_slice-2.result.now c.of.result.now c.as_slice.ensures.value c.as_slice-2.ensures.value c.word_at.ensures.word c.word_at-2.ensures.word c.of.ensures)

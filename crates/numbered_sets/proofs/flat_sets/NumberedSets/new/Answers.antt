@@ -1,16 +1,18 @@
-use Rattle.std.proofs.{Common.{◌≡◌, length, ap, ◌∙◌, arith}, lemmas.List.{length-replicate}}
+use Rattle.std.proofs.{Common.{◌≡◌, Vec, length, ap, ◌∙◌, arith}, lemmas.List.{length-replicate}}
+use Rattle.std.specs.Global.{Global}
+use Rattle.abstract_state.specs.declared.value.Domain.{Domain}
 use Rattle.numbered_sets.proofs.FlatLaws.{flat_made}
 use Rattle.numbered_sets.proofs.flat_sets.NumberedSets.new.Goals as goal
 
 pub invariant_of-result : goal.invariant_of-result
 invariant_of-result c =
-    let many : length c.in_ok-copy.copy.items ≡ length c.args.domains.now = ap length c.in_ok-copy.ensures.items in
+    let many : length c.in_ok-domains.domains.value.items ≡ length c.args.domains.now = ap length (ap (λ (v : Vec Domain Global). v.items) c.in_ok-domains.ensures.ok ∙ c.in_ok-copy.ensures.items) in
     let low = ap length c.in_ok-low.ensures ∙ length-replicate (length c.args.domains.now) 0 in
     let high = ap length c.in_ok-high.ensures ∙ length-replicate (length c.args.domains.now) 0 in
-    let none = ap length c.new.ensures in
+    let none = ap length c.new-2.ensures in
     (omega (arith, many, low), omega (arith, many, high), omega (arith, none))
 
 pub returns : goal.returns
 returns c =
-    flat_made c.args.domains.now c.in_ok-copy.copy.items c.in_ok-low.low.items c.in_ok-high.high.items c.new.result c.in_ok-copy.ensures.items
-    c.in_ok-low.ensures c.in_ok-high.ensures c.new.ensures
+    flat_made c.args.domains.now c.in_ok-domains.domains.value.items c.in_ok-low.low.items c.in_ok-high.high.items c.new-2.result (ap (λ (v : Vec Domain Global). v.items) c.in_ok-domains.ensures.ok ∙ c.in_ok-copy.ensures.items)
+    c.in_ok-low.ensures c.in_ok-high.ensures c.new-2.ensures

@@ -7,7 +7,7 @@ pub returns-clause-has : goal.returns-clause-has
 returns-clause-has c =
     λ lt.
     subst (λ (m : ℕ). IsTrue (has_bit m c.next.result))
-    (read_is c.self.inside.domains.items c.self.inside.low.items c.self.inside.high.items c.self.inside.more c.args.self.now c.self.view_is c.self.invariant.0 c.self.invariant.1 c.self.invariant.2 c.args.component
+    (read_is c.self.inside.domains.value.items c.self.inside.low.items c.self.inside.high.items c.self.inside.more c.args.self.now c.self.view_is c.self.invariant.0 c.self.invariant.1 c.self.invariant.2 c.args.component
     c.word_at.result c.word_at-2.result c.as_slice.result.now c.as_slice-2.result.now c.of.result.now c.as_slice.ensures.value c.as_slice-2.ensures.value c.word_at.ensures.word c.word_at-2.ensures.word c.of.ensures)
     (c.next.ensures.has lt)
 
@@ -15,6 +15,6 @@ pub returns-clause-none : goal.returns-clause-none
 returns-clause-none c =
     λ k above below.
     subst (λ (m : ℕ). has_bit m k ≡ false)
-    (read_is c.self.inside.domains.items c.self.inside.low.items c.self.inside.high.items c.self.inside.more c.args.self.now c.self.view_is c.self.invariant.0 c.self.invariant.1 c.self.invariant.2 c.args.component
+    (read_is c.self.inside.domains.value.items c.self.inside.low.items c.self.inside.high.items c.self.inside.more c.args.self.now c.self.view_is c.self.invariant.0 c.self.invariant.1 c.self.invariant.2 c.args.component
     c.word_at.result c.word_at-2.result c.as_slice.result.now c.as_slice-2.result.now c.of.result.now c.as_slice.ensures.value c.as_slice-2.ensures.value c.word_at.ensures.word c.word_at-2.ensures.word c.of.ensures)
     (c.next.ensures.none k above below)

@@ -1,6 +1,6 @@
 use Rattle.std.proofs.{Common.{◌+◌, ◌*◌, subst}, lemmas.Option.{IfSome_then}}
 use Rattle.std.specs.Prelude.{IfSome}
-use Rattle.flow_model.specs.{Values.{at_block}, Tests.{on_task}}
+use Rattle.flow_model.specs.{declared.change.Update.TheVariants.{Block}, Tests.{updated}}
 use Rattle.numbered_sets.specs.{Pools.{Values, IsBeside}, Slots.{IsSlot}}
 use Rattle.numbered_sets.proofs.SlotLaws.{moved_number, moved_before}
 use Rattle.numbered_sets.proofs.seen_values.SeenValues.beside.Goals as goal
@@ -16,5 +16,5 @@ returns c =
     let moved = moved_before here.domain here.slots.width slot here.loads place c.are_distinct.ensures known c.self.invariant.wide c.in_ok-place.ensures c.if-place-eq0.false c.if-place-eq0-2.false in
     subst (λ (x : Values). IfSome c.find_in.result (IsBeside x.values n)) c.self.view_is
     (IfSome_then c.find_in.result
-    (moved_number here.domain here.loads here.slots.used (on_task (at_block moved.0)) slot before n c.find_in.result c.at-slot.ensures.slot moved.1 c.find_in.ensures.number)
+    (moved_number here.domain here.loads here.slots.used (updated (Block moved.0)) slot before n c.find_in.result c.at-slot.ensures.slot moved.1 c.find_in.ensures.number)
     (λ m is v number. (moved.0, is v number)))

@@ -1,0 +1,5 @@
+use Rattle.flow_effects.proofs.Listed.{routine_known}
+use Rattle.flow_effects.proofs.resources.release_cases.Goals as goal
+
+pub routine_gives-requires-clause-source : goal.routine_gives-requires-clause-source
+routine_gives-requires-clause-source c = (routine_known c.args.app.now c.args.runner _ _ _ c.requires.known c.in-Routine.is).known
