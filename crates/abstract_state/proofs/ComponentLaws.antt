@@ -4,10 +4,17 @@ use Rattle.std.specs.{Prelude.{if◌then◌else◌}, List.{range_with_len}}
 use Rattle.std.proofs.lemmas.{Bool.{cases_Bool, cases_lt}, List.{get_or_append_left, get_or-append_right, length-append}}
 use Rattle.std.proofs.lemmas.List.FromFn.{length-map-range_with_len, get_or-map-range_with_len}
 use Rattle.osek_values.specs.{Numbers.{task_no, event_no, alarm_no, source_no}, Bits.{has_bit, passing_below}}
-use Rattle.osek_standard.specs.{declared.app.App.{App}, Apps.{the_task, source_count}}
+use Rattle.osek_standard.specs.{declared.{app.App.{App}, state.{Processor.{Processor}, State.{State}}}, Apps.{the_task, source_count}, States.{with_processor}}
 use Rattle.abstract_state.specs.declared.value.Component.{Component}
 use Rattle.abstract_state.specs.declared.value.Component.TheVariants as component
-use Rattle.abstract_state.specs.Components.{events_of, components, component_count, component_at, IsComponent, event_start, before_alarms, component_number}
+use Rattle.abstract_state.specs.Components.{events_of, components, component_count, component_at, IsComponent, event_start, before_alarms, component_number, part_of}
+
+-- who has the processor is no component
+pub processor_part : (s : State) (p : Processor) (c : Component) → part_of (with_processor s p) c ≡ part_of s c
+processor_part s p (component.Task t) = refl
+processor_part s p (component.Event t j) = refl
+processor_part s p (component.Alarm a) = refl
+processor_part s p (component.Source k) = refl
 
 -- each element fits its place, counted from a number on
 abbrev Each : {X : Type 0} → (ℕ → X → Type 0) → ℕ → List X → Type 0

@@ -3,8 +3,7 @@ pub mod RegularLaws
 pub mod SettledParts
 pub mod ContainmentLaws
 pub mod AlikeLaws
-pub mod FormLaws
-pub mod ImageLaws
+pub mod EdgeLaws
 pub mod ComponentLaws
 pub mod BitLaws
 pub mod RepeatedLines

@@ -1,7 +1,7 @@
 -- Lists over the numbers below another, one number longer.
-use Rattle.std.proofs.Common.{◌≡◌, ℕ, zero, suc, ◌+◌, Bool, true, false, cond, List, [], ◌∷◌, ◌++◌, ◌≤◌, length, map, take, filter, flat_map, refl, sym, ap, ◌∙◌, arith, append_assoc}
+use Rattle.std.proofs.Common.{◌≡◌, ℕ, zero, suc, ◌+◌, Bool, true, false, cond, List, [], ◌∷◌, ◌++◌, ◌≤◌, length, map, take, filter, flat_map, sym, ap, ◌∙◌, arith, append_assoc}
 use Rattle.std.specs.List.{range_with_len}
-use Rattle.std.proofs.lemmas.{List.{append-nil, map-append, take_all, Elements.{filter-append}, FromFn.{map-range_with_len_more}}, Grind.{flat_map-append}}
+use Rattle.std.proofs.lemmas.{List.{append-nil, map-append, take_all, Elements.{filter-append}, FromFn.{map-range_with_len_more}}, Grind.{flat_map-append}, Simd.{map-map}}
 
 range_from : (a n : ℕ) → range_with_len a (suc n) ≡ range_with_len a n ++ (a + n) ∷ []
 range_from a zero = ap (λ (k : ℕ). k ∷ []) (omega arith)
@@ -12,10 +12,6 @@ range_more n =
     let long : n + 1 ≡ suc n = omega arith in
     let last : 0 + n ≡ n = omega arith in
     ap (range_with_len 0) long ∙ range_from 0 n ∙ ap (λ (k : ℕ). range_with_len 0 n ++ k ∷ []) last
-
-mapped_twice : {X Y Z : Type 0} (f : X → Y) (g : Y → Z) (xs : List X) → map g (map f xs) ≡ map (λ (x : X). g (f x)) xs
-mapped_twice f g [] = refl
-mapped_twice f g (x ∷ xs) = ap (λ ys. g (f x) ∷ ys) (mapped_twice f g xs)
 
 module _ {X : Type 0} (xs all : List X) where
   pub mapped_more : (f : ℕ → X) (n : ℕ) → all ≡ xs ++ map f (range_with_len 0 n) → all ++ f n ∷ [] ≡ xs ++ map f (range_with_len 0 (n + 1))
@@ -53,4 +49,4 @@ module _ {X : Type 0} (p : ℕ → Bool) (f : ℕ → X) (all : List X) (n : ℕ
 
 -- each element of a list that is a map of another
 pub mapped_all : {X Y Z : Type 0} (f : X → Y) (g : Y → Z) (bits : List X) (items : List Y) (i : ℕ) → items ≡ map f bits → length items ≤ i → map g (take i items) ≡ map (λ (x : X). g (f x)) bits
-mapped_all f g bits items i e le = ap (map g) (take_all i items le ∙ e) ∙ mapped_twice f g bits
+mapped_all f g bits items i e le = ap (map g) (take_all i items le ∙ e) ∙ map-map g f bits

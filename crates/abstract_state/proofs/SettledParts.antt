@@ -6,13 +6,12 @@ use Rattle.osek_values.specs.{Bits.{has_bit}, declared.{numbers.{TaskNo.{TaskNo}
 use Rattle.osek_standard.specs.declared.{app.App.{App}, task_state.{TaskState.{TaskState}, Activity.{Activity}}, state.{State.{State}, Processor.{Processor}}}
 use Rattle.osek_standard.specs.declared.task_state.Activity.TheVariants as activity
 use Rattle.osek_standard.specs.declared.state.Processor.TheVariants as processor
-use Rattle.osek_standard.specs.{TaskStates.{is_inside, suspended}, States.{is_that_task, task_of, task_state, place_in, place_by}, Line.{first_in_line, out_of_line}, Internal.{inside_as, internal_of, kept_by, put_inside, with_inside}}
+use Rattle.osek_standard.specs.{TaskStates.{suspended}, States.{task_of, task_state, place_in, place_by}, Line.{first_in_line, out_of_line}, Internal.{inside_as, internal_of, kept_by, put_inside, with_inside}}
 use Rattle.osek_standard.specs.{Dispatch.{Outcome, Keep, To, settled}, Points.{point_at, point_of}}
-use Rattle.osek_standard.proofs.InsideLaws.{IsNamed}
 use Rattle.abstract_state.specs.declared.value.{Val.{Val, TheVariants.{Suspended, Live, Waiting}}, Component.{Component}, PartValue.TheVariants.{OfTask, OfEvent}}
 use Rattle.abstract_state.specs.declared.value.Component.TheVariants as component
 use Rattle.abstract_state.specs.{Components.{part_of, value_in}, Settling.{inside_val, inside_val_if, running_task, runner_after, settled_val, settled_part_of}}
-use Rattle.abstract_state.proofs.AlikeLaws.{inside_in, inside_of_value}
+use Rattle.abstract_state.proofs.AlikeLaws.{inside_in}
 
 -- the line is no task's
 queued_task : (s : State) (c o : Option TaskNo) (u : ℕ) → task_state (out_of_line (first_in_line s c) o) u ≡ task_state s u
@@ -138,34 +137,9 @@ pub flag_same : (here b : Bool) (v : Val) → (here ≡ true → inside_in v ≡
 flag_same true b v h = flag_stays b v (h refl)
 flag_same false b v h = refl
 
-only_named : (a b : Bool) → b ≡ false → (a ≡ true → b ≡ true) → a ≡ b
-only_named true b e h = sym (h refl)
-only_named false b e h = sym e
-
--- so no component changes where no task names an INTERNAL resource
-pub settled_same : (app : App) (s : State) (o : Outcome) → IsNamed app s → ((t : ℕ) → internal_of app t ≡ None) → (k : Component) → part_of (settled app s o) k ≡ part_of s k
-settled_same app s o named none (component.Task t) =
-    let a = (task_state s t.0).activity in
-    settled_part app s o (component.Task t)
-    ∙ ap OfTask (flag_same (is_that_task (runner_after s o) t.0) (is_some (internal_of app t.0)) (value_in a)
-    (λ _. only_named (inside_in (value_in a)) (is_some (internal_of app t.0)) (ap is_some (none t.0)) (λ f. named t.0 (inside_of_value a ∙ f))))
-settled_same app s o named none (component.Event t k) = settled_part app s o (component.Event t k)
-settled_same app s o named none (component.Alarm a) = settled_part app s o (component.Alarm a)
-settled_same app s o named none (component.Source k) = settled_part app s o (component.Source k)
-
 -- an outcome changes no task's block
 pub settled_block : (app : App) (s : State) (o : Outcome) (t : ℕ) → (place_in (task_state (settled app s o) t).activity).block ≡ (place_in (task_state s t).activity).block
 settled_block app s o t = settled_task (λ x. (place_in x.activity).block) (λ b x. block_inside b x.activity) app s o t
-
--- a flag that a task has already changes no component
-pub inside_part : (s : State) (t : ℕ) (b : Bool) → is_inside (task_state s t) ≡ b → (k : Component) → part_of (with_inside s t b) k ≡ part_of s k
-inside_part s t b e (component.Task u) =
-    let a = (task_state s u.0).activity in
-    ap OfTask (flag_value s t b u.0
-    ∙ flag_same (t == u.0) b (value_in a) (λ same. sym (inside_of_value a) ∙ ap (λ (v : ℕ). is_inside (task_state s v)) (sym (eqb-true t u.0 same)) ∙ e))
-inside_part s t b e (component.Event u j) = inside_task (λ x. OfEvent (has_bit x.events.0 j.0)) (λ c x. refl) s t b u.0
-inside_part s t b e (component.Alarm a) = refl
-inside_part s t b e (component.Source k) = refl
 
 inside_at : (s : State) (t : ℕ) (b : Bool) (p : Processor) → point_at (place_by (with_inside s t b) p).block p ≡ point_at (place_by s p).block p
 inside_at s t b processor.Halted = refl

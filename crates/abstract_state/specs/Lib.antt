@@ -3,7 +3,6 @@ pub mod Choices
 pub mod Components
 pub mod Concrete
 pub mod Domains
-pub mod Forms
 pub mod Regular
 pub mod Settling
 pub mod Tables

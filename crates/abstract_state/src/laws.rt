@@ -1,12 +1,9 @@
 //! Laws over the definitions, each on a function that does nothing.
-ghost use Rattle.std.specs.{Prelude.{◌≡◌, ◌↔◌, ℕ, ◌<◌, ◌≤◌, Bool, List, length, IsTrue, Some}, Cmp.{IsTotalOrder}, List.{IsDistinct}, declared.cmp.Ordering.TheVariants.{Equal}};
-ghost use Rattle.osek_values.specs.declared.{event.Event.{Event}, numbers.{TaskNo.{TaskNo}, BlockNo.{BlockNo}, ModeNo.{ModeNo}}, status.Status.{Status}};
+ghost use Rattle.std.specs.{Prelude.{◌≡◌, ◌↔◌, ℕ, ◌<◌, ◌≤◌, Bool, List, length, IsTrue}, Cmp.{IsTotalOrder}, List.{IsDistinct}, declared.cmp.Ordering.TheVariants.{Equal}};
+ghost use Rattle.osek_values.specs.declared.{event.Event.{Event}, numbers.BlockNo.{BlockNo}, status.Status.{Status}};
 ghost use Rattle.std.specs.declared.option.Option.{Option};
 ghost use Rattle.osek_standard.specs.{declared.{app.App.{App}, state.State.{State}}, Dispatch.{Outcome}, Kernel.{step}, Apps.{the_block, the_counter, source_count, max_of}};
 ghost use Rattle.osek_standard.specs.Well.{Well, IsOffsetAt, IsArmed};
-ghost use Rattle.image_model.specs.declared.{site.{Form.{Form}, Known.{Known}}, image.Image.{Image}};
-ghost use Rattle.image_model.specs.declared.image.Version.TheVariants as version;
-ghost use Rattle.image_model.specs.{ImageStep.{image_step}, Laws.{IsKernelsRun}};
 ghost use Rattle.osek_standard.specs.declared.point.Point.{Point};
 ghost use Rattle.abstract_state.specs.declared.{table.{ValueSet.{ValueSet}, PlainEntry.{PlainEntry}, PlainTable.{PlainTable}}, value.Component.{Component}};
 ghost use Rattle.abstract_state.specs.declared.value.{LiveVal.{LiveVal}, RoutineVal.{RoutineVal}, Val.TheVariants.{Live}, PartValue.{PartValue, TheVariants.{OfTask, OfSource}}};
@@ -19,7 +16,7 @@ ghost use Rattle.abstract_state.specs.{Alike.{IsAlike}, Regular.{IsRegular}};
 ghost use Rattle.abstract_state.specs.Tables.{Sets, In, Inductive, IsContained, Least, meet, full, IsSubset, IsJoin, IsPartOfJoin, IsSetBySet, set_at, sets_of, HasRow, HasValue};
 ghost use Rattle.abstract_state.specs.{ValueOrder.{same_part, part_order, IsAscending}, Domains.{domains, IsSound, IsSoundEntry, IsBelow}};
 ghost use Rattle.osek_standard.specs.Outcomes.{Silent, Arrived, Did, shows, IsInstruction, IsArrivalStep};
-ghost use Rattle.abstract_state.specs.Forms.{FormOf, KnownOf, HasDictatedForms, HasDictatedStatuses, KnowsAtMost, Edge, Fits};
+ghost use Rattle.abstract_state.specs.Edges.{Edge};
 
 /// Containment is a partial order.
 pub fn containment_is_a_partial_order()
@@ -115,43 +112,10 @@ pub fn a_step_does_what_it_shows()
     ensures silent { (app : App) (s : State) (e : Event) → shows app s e ≡ Silent → IsAlike s (step app s e).state }
 {}
 
-/// A table dictates one form at most, and says one thing at most of the status.
-pub fn one_form_is_dictated()
-    ensures known { (app : App) (table : Sets) (b : ℕ) (x y : Known) → KnownOf app table b x → KnownOf app table b y → x ≡ y }
-    ensures form { (app : App) (table : Sets) (b : ℕ) (f g : Form) → FormOf app table b f → FormOf app table b g → f ≡ g }
-{}
-
 /// An edge begins at a point with an entry, and ends at one where the table is inductive.
 pub fn edges_lead_from_entry_to_entry()
     ensures begins { (app : App) (table : Sets) (p q : Point) → Edge app table p q → IsTrue (table.entry p) }
     ensures ends { (app : App) (table : Sets) (p q : Point) → Inductive app table → Edge app table p q → IsTrue (table.entry q) }
-{}
-
-/// An image that fits a table does the kernel's steps, and doesn't trap, from each state in the table; and where the table is
-/// inductive, its trace is the kernel's in every mode over every list of events.
-pub fn fitting_images_are_the_kernel()
-    ensures step { (i : Image) (table : Sets) (s : State) (e : Event) → Fits table i → In i.app table s → image_step i s e ≡ Some (step i.app s e) }
-    ensures run { (i : Image) (table : Sets) (mode : ModeNo) (es : List Event) → Inductive i.app table → Fits table i → mode.0 < length i.app.modes → IsKernelsRun i mode es }
-{}
-
-/// So does an image whose sites have the forms that a table dictates, and know of their statuses what it says or nothing: it
-/// fits.
-pub fn dictated_forms_are_the_kernel()
-    ensures fit { (i : Image) (table : Sets) → HasDictatedForms table i → KnowsAtMost table i → Fits table i }
-    ensures step { (i : Image) (table : Sets) (s : State) (e : Event) → HasDictatedForms table i → KnowsAtMost table i → In i.app table s → image_step i s e ≡ Some (step i.app s e) }
-    ensures run { (i : Image) (table : Sets) (mode : ModeNo) (es : List Event) → Inductive i.app table → HasDictatedForms table i → KnowsAtMost table i → mode.0 < length i.app.modes → IsKernelsRun i mode es }
-{}
-
-/// An image that knows of its statuses what a table says, or that is of version 1, knows no more than that.
-pub fn dictated_statuses_are_no_more()
-    ensures dictated { (i : Image) (table : Sets) → HasDictatedStatuses table i → KnowsAtMost table i }
-    ensures version_1 { (i : Image) (table : Sets) → i.version ≡ version.One → KnowsAtMost table i }
-{}
-
-/// No block is without a form: that a table dictated none of them would be a contradiction.
-pub fn no_block_is_without_a_form()
-    ensures form { (app : App) (table : Sets) (b : ℕ) → ((f : Form) → FormOf app table b f → ⊥) → ⊥ }
-    ensures known { (app : App) (table : Sets) (b : ℕ) → ((x : Known) → KnownOf app table b x → ⊥) → ⊥ }
 {}
 
 /// A sound set has no more members than one that contains it, and where it has as many both have the same values;

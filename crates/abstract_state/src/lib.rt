@@ -1,5 +1,5 @@
 //! Tables of possible states: what the kernel can be like at each point, judged by single steps of single states, and
-//! the forms and edges that such a table dictates.
+//! the edges that such a table dictates.
 #![tactic(auto)]
 
 pub mod bounds;

@@ -43,7 +43,7 @@ pub enum SourceVal {
 
 /// A part of a state: what a task does, whether an event of an extended task is set, whether an alarm is armed, or what
 /// the routine of an interrupt source does.
-#[derive(Clone, Copy, PartialEq, Eq, Debug)]
+#[derive(Clone, Copy)]
 pub enum Component {
     Task(TaskNo),
     Event { task: TaskNo, bit: EventNo },
@@ -52,7 +52,7 @@ pub enum Component {
 }
 
 /// The number of a component: the tasks come first, then each task's own events, then the alarms, then the sources.
-#[derive(Clone, Copy, PartialEq, Eq, Debug)]
+#[derive(Clone, Copy)]
 pub struct ComponentNo(pub u16);
 
 impl ComponentNo {
@@ -67,7 +67,7 @@ impl ComponentNo {
 }
 
 /// What the values of a set are values of, which bounds how many there can be.
-#[derive(Clone, Copy, PartialEq, Eq, Debug)]
+#[derive(Clone, Copy)]
 pub enum Domain {
     /// A task with these blocks and so many activations, which can take these resources, and names an INTERNAL one or
     /// not.

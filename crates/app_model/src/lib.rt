@@ -2,9 +2,10 @@
 //! find under one name.
 #![tactic(auto)]
 
+pub use activation::activate;
 pub use oil_system::{CounterObject, EventObject, IsrObject, System, TaskObject};
 pub use osek_standard::{
     Action, Activity, Alarm, AlarmState, App, Block, Call, Caller, Counter, Isr, Kind, Place,
-    Point, Processor, Resource, Schedule, Source, Standing, State, Task, TaskState, activate,
+    Point, Processor, Resource, Schedule, Source, Standing, State, Task, TaskState,
 };
 pub use osek_values::Lock;

@@ -1,10 +1,9 @@
 -- A word before others: what becomes of the number whose bits they are.
-use Rattle.std.proofs.Common.{◌≡◌, ◌≢◌, ℕ, suc, ◌+◌, ◌-◌, ◌*◌, ◌^◌, ◌<◌, ◌≤◌, List, [], ◌∷◌, length, get_or, refl, sym, ap, ap₂, ◌∙◌, inl, inr, arith}
-use Rattle.std.proofs.Math.ListN.{get_or-eq_default}
+use Rattle.std.proofs.Common.{◌≡◌, ◌≢◌, ℕ, ◌+◌, ◌-◌, ◌*◌, ◌^◌, ◌<◌, ◌≤◌, List, [], ◌∷◌, length, refl, sym, ap, ap₂, ◌∙◌, inl, inr, arith}
 use Rattle.std.specs.{Prelude.{◌==◌, bit_and, bit_or, count_ones}, Int.Bits.{or_zero_r}}
 use Rattle.std.proofs.lemmas.{Bool.{cases_eq, eq-eqb, ne_eqb}, Nat.{or_block, and_block, ones_cat, pow_below, pow-add}}
 use Rattle.bit_words.specs.Words.{bits_of_words}
-use Rattle.bit_words.proofs.{WordLaws.{low_bit, high_bit}, KeptWords.{no_bits}}
+use Rattle.bit_words.proofs.{WordLaws.{low_bit, high_bit}}
 use Rattle.osek_values.specs.Bits.{has_bit}
 
 pub word_first : (w : ℕ) (ws : List ℕ) → bits_of_words (w ∷ ws) ≡ bits_of_words ws * 2 ^ 64 + w
@@ -90,17 +89,6 @@ module _ (a b x y : ℕ) (ws us vs : List ℕ) (fits : a < 2 ^ 64) (too : b < 2 
 
   pub both_two : bits_of_words vs ≡ bit_and (bits_of_words ws) (bits_of_words us) → bits_of_words (bit_and a x ∷ bit_and b y ∷ vs) ≡ bit_and (bits_of_words (a ∷ b ∷ ws)) (bits_of_words (x ∷ y ∷ us))
   both_two rest = both_first a x (b ∷ ws) (y ∷ us) (bit_and b y ∷ vs) fits its (both_first b y ws us vs too its_too rest)
-
--- words in the place of others
-pub bits_copied : (ws us : List ℕ) → length us ≤ length ws → ((i : ℕ) → i < length ws → get_or ws i 0 ≡ get_or us i 0) → bits_of_words ws ≡ bits_of_words us
-unfolding bits_of_words
-bits_copied [] [] le h = refl
-bits_copied [] (u ∷ us) le h = absurd (omega (arith, le))
-bits_copied (w ∷ ws) [] le h = no_bits (w ∷ ws) (λ i lt. h i lt ∙ get_or-eq_default [] 0 {n = i} (omega arith))
-bits_copied (w ∷ ws) (u ∷ us) le h =
-    let rest = bits_copied ws us (omega (arith, le)) (λ i lt. h (suc i) (omega (arith, lt))) in
-    let first : w ≡ u = h 0 (omega arith) in
-    ap₂ (λ v m. v + 2 ^ 64 * m) first rest
 
 pub bits_of_none : (us : List ℕ) → length us ≡ 0 → bits_of_words us ≡ 0
 unfolding bits_of_words

@@ -1,8 +1,9 @@
 -- No block has two owners.
 use Rattle.std.proofs.Common.{◌≡◌, ℕ, ◌+◌, ◌≤◌, List, [], ◌∷◌, ◌++◌, map, true, false, sym, ◌∙◌, subst, arith, inl, inr}
 use Rattle.std.specs.{Prelude.{◌||◌, nat_lt}, List.{AllByRecursion, IsDistinct, list_any}, Str.{bytes_eq}}
-use Rattle.std.proofs.lemmas.{Bool.{and_left, and_parts, and_right, cases_Bool, cond-false, cond-true, le-ltb, both_ways}, List.Sums.{sum_by-cons}}
+use Rattle.std.proofs.lemmas.{Bool.{and_left, and_parts, and_right, cases_Bool, cond-false, cond-true, le-ltb, both_ways}, List.Sums.{sum_by-cons}, Map.Keys.{IsDistinct-cons}, Simd.{map-map}}
 use Rattle.std.proofs.lemmas.Slice.Eq.{bytes_eq-Decides}
+use Rattle.osek_values.proofs.Lists.{each_append, each_map, none_distinct}
 use Rattle.osek_standard.specs.{declared.objects.{Counter.{Counter}, Isr.{Isr}, Task.{Task}}, Validity.{due_of, meet, owners}}
 use Rattle.oil_system.specs.declared.system.{CounterObject.{CounterObject}, IsrObject.{IsrObject}, TaskObject.{TaskObject}, System.{System}}
 use Rattle.oil_model.specs.Linkable.{IsLinkable}
@@ -11,7 +12,7 @@ use Rattle.task_code.specs.declared.tree.{Body.{Body}, BodyKind.{BodyKind}, Code
 use Rattle.task_code.specs.declared.tree.BodyKind.TheVariants as body_kind
 use Rattle.block_graph.specs.{Apps.{counters_from, counters_of, extent, isr_with, isrs_of, task_with, tasks_of}, Blocks.{routine_size, size, source_size}, Faults.{HasNoFault}}
 use Rattle.block_graph.specs.Rules.{is_code_of, is_kind}
-use Rattle.block_graph.proofs.{ExtentsLists.{distinct_append, distinct_cons, distinct_values, each_append, each_map, mapped_twice, none_distinct}, ExtentsPlaces.{code_kind}}
+use Rattle.block_graph.proofs.{ExtentsLists.{distinct_append, distinct_values}, ExtentsPlaces.{code_kind}}
 use Rattle.block_graph.proofs.ExtentsRules.{isrs_have_code, tasks_have_code}
 
 -- ---- blocks that end before others begin
@@ -111,7 +112,7 @@ routines_apart s (x ∷ xs) c n =
     let count = routine_size (due_of s.alarms c) in
     let later = map counter_blocks (counters_from s xs (c + 1) (n + count)) in
     let none : n + count ≤ n + count = omega arith in
-    distinct_cons meet (n, count) later
+    IsDistinct-cons meet (n, count) later
     (all_weaker (λ (o : ℕ × ℕ). meet (n, count) o ≡ false) (λ (o : ℕ × ℕ). n + count ≤ o.0) later (λ o le. apart_before (n, count) o le) (routines_behind s xs (c + 1) (n + count) (n + count) none))
     (routines_apart s xs (c + 1) (n + count))
 
@@ -130,8 +131,8 @@ module _ (s : System) (bodies : List Body) where
   -- the owners, by the objects of the system
   pub owners_are : owners (tasks_of s bodies) (isrs_of s bodies) (counters_of s bodies) ≡ (map of_task s.tasks ++ map of_isr s.isrs) ++ of_counters
   owners_are =
-      let of_tasks : map task_blocks (tasks_of s bodies) ≡ map of_task s.tasks = mapped_twice (λ (x : TaskObject). task_with x (of_task x)) task_blocks s.tasks in
-      let of_isrs : map isr_blocks (isrs_of s bodies) ≡ map of_isr s.isrs = mapped_twice (λ (x : IsrObject). isr_with x (of_isr x)) isr_blocks s.isrs in
+      let of_tasks : map task_blocks (tasks_of s bodies) ≡ map of_task s.tasks = map-map task_blocks (λ (x : TaskObject). task_with x (of_task x)) s.tasks in
+      let of_isrs : map isr_blocks (isrs_of s bodies) ≡ map of_isr s.isrs = map-map isr_blocks (λ (x : IsrObject). isr_with x (of_isr x)) s.isrs in
       λ i. (of_tasks i ++ of_isrs i) ++ of_counters
 
 module _ (s : System) (code : Code) (linkable : IsLinkable s) (clean : HasNoFault s code) where

@@ -1,51 +1,17 @@
 -- Lists: each element of a joined list, elements that differ in pairs, and tests of elements.
-use Rattle.std.proofs.Common.{◌≡◌, ℕ, zero, suc, ◌<◌, List, [], ◌∷◌, ◌++◌, length, map, Bool, true, false, refl, ap, arith, append_assoc, inl, inr}
-use Rattle.std.specs.{Prelude.{Option, Some, None, is_some, slice_index_or, All}, List.{AllByRecursion, IsDistinct, list_any, position}}
+use Rattle.std.proofs.Common.{◌≡◌, ℕ, List, [], ◌∷◌, ◌++◌, map, Bool, true, false, refl, inl, inr}
+use Rattle.std.specs.{Prelude.{Option, Some, None, is_some}, List.{AllByRecursion, IsDistinct, list_any, position}}
 use Rattle.std.proofs.lemmas.{Bool.{or_cases, or_left, or_right, or_parts}, List.{Folds.{list_any_at}, Quantifiers.{position-Some}}}
+use Rattle.osek_values.proofs.Lists.{each_append}
 
 -- ---- each element
-
--- by index
-pub by_index : {X : Type 0} (P : X → Type 0) (xs : List X) (k : ℕ) (d : X) → AllByRecursion P xs → k < length xs → P (slice_index_or xs k d)
-by_index P [] k d h lt = absurd (omega (arith, lt))
-by_index P (x ∷ xs) zero d h lt = h.0
-by_index P (x ∷ xs) (suc k) d h lt = by_index P xs k d h.1 (omega (arith, lt))
-
-pub all_at : {X : Type 0} (P : X → Type 0) (xs : List X) → AllByRecursion P xs → All P xs
-all_at P xs h = λ k d lt. by_index P xs k d h lt
-
-pub each_of : {X : Type 0} (P : X → Type 0) (xs : List X) → All P xs → AllByRecursion P xs
-each_of P [] h = tt
-each_of P (x ∷ xs) h = let some : 0 < length (x ∷ xs) = omega arith in (h 0 x some, each_of P xs (λ k d lt. let more : suc k < length (x ∷ xs) = omega (arith, lt) in h (suc k) d more))
-
--- of a mapped list
-pub each_map : {X Y : Type 0} (P : Y → Type 0) (f : X → Y) (xs : List X) → AllByRecursion (λ (x : X). P (f x)) xs → AllByRecursion P (map f xs)
-each_map P f [] h = tt
-each_map P f (x ∷ xs) h = (h.0, each_map P f xs h.1)
-
--- of two lists
-pub each_append : {X : Type 0} (P : X → Type 0) (xs ys : List X) → AllByRecursion P xs → AllByRecursion P ys → AllByRecursion P (xs ++ ys)
-each_append P [] ys h k = k
-each_append P (x ∷ xs) ys h k = (h.0, each_append P xs ys h.1 k)
 
 -- the element behind a front
 pub behind_front : {X : Type 0} (P : X → Type 0) (front : List X) (x : X) (more : List X) → AllByRecursion P (front ++ x ∷ more) → P x
 behind_front P [] x more h = h.0
 behind_front P (y ∷ front) x more h = behind_front P front x more h.1
 
-pub mapped_twice : {X Y Z : Type 0} (f : X → Y) (g : Y → Z) (xs : List X) → map g (map f xs) ≡ map (λ (x : X). g (f x)) xs
-mapped_twice f g [] = refl
-mapped_twice {Z = Z} f g (x ∷ xs) = ap (λ (zs : List Z). g (f x) ∷ zs) (mapped_twice f g xs)
-
 -- ---- elements that differ in pairs
-
-pub none_distinct : {K : Type 0} (eq : K → K → Bool) → IsDistinct eq []
-unfolding IsDistinct
-none_distinct eq = tt
-
-pub distinct_cons : {K : Type 0} (eq : K → K → Bool) (x : K) (xs : List K) → AllByRecursion (λ (y : K). eq x y ≡ false) xs → IsDistinct eq xs → IsDistinct eq (x ∷ xs)
-unfolding IsDistinct
-distinct_cons eq x xs h d = (h, d)
 
 pub distinct_append : {K : Type 0} (eq : K → K → Bool) (xs ys : List K) → IsDistinct eq xs → IsDistinct eq ys → AllByRecursion (λ (x : K). AllByRecursion (λ (y : K). eq x y ≡ false) ys) xs → IsDistinct eq (xs ++ ys)
 unfolding IsDistinct
@@ -79,14 +45,6 @@ any_weaker p q (x ∷ xs) f e =
       | inr later ↦ or_right (q x) (list_any q xs) (any_weaker p q xs f later)
     ]
 
-pub any_map : {X Y : Type 0} (p : Y → Bool) (f : X → Y) (xs : List X) → list_any (λ (x : X). p (f x)) xs ≡ true → list_any p (map f xs) ≡ true
-any_map p f [] e = e
-any_map {X = X} p f (x ∷ xs) e =
-    elim (or_cases (p (f x)) (list_any (λ (y : X). p (f y)) xs) e) [
-      | inl here ↦ or_left (p (f x)) (list_any p (map f xs)) here
-      | inr later ↦ or_right (p (f x)) (list_any p (map f xs)) (any_map p f xs later)
-    ]
-
 pub any_append_left : {X : Type 0} (p : X → Bool) (xs ys : List X) → list_any p xs ≡ true → list_any p (xs ++ ys) ≡ true
 any_append_left p [] ys e = absurd cc
 any_append_left p (x ∷ xs) ys e =
@@ -107,12 +65,3 @@ placed p xs d (Some i) e is = let at = position-Some p xs i d e in list_any_at p
 pub any_from_position : {X : Type 0} (p : X → Bool) (xs : List X) → is_some (position p xs) ≡ true → list_any p xs ≡ true
 any_from_position p [] e = absurd cc
 any_from_position p (x ∷ xs) e = placed p (x ∷ xs) x (position p (x ∷ xs)) refl e
-
--- ---- joined lists
-
-pub append_none : {X : Type 0} (xs : List X) → xs ++ [] ≡ xs
-append_none [] = refl
-append_none (x ∷ xs) = ap (λ zs. x ∷ zs) (append_none xs)
-
-pub append_push : {X : Type 0} (xs : List X) (y : X) (ys : List X) → (xs ++ y ∷ []) ++ ys ≡ xs ++ y ∷ ys
-append_push xs y ys = append_assoc xs (y ∷ []) ys

@@ -2,13 +2,14 @@
 use Rattle.std.proofs.Common.{◌≡◌, ℕ, ◌+◌, ◌<◌, ◌≤◌, List, [], ◌∷◌, ◌++◌, length, map, true, refl, ap, ◌∙◌, subst, arith, inl, inr}
 use Rattle.std.specs.{Prelude.{nat_le, nat_lt}, List.{AllByRecursion, list_any}, Str.{bytes_eq}}
 use Rattle.std.proofs.lemmas.{Bool.{and_from, cases_lt, le-leb, lt-ltb, or_left, or_right}, List.{length-append, Sums.{sum_by-cons}}, Slice.Eq.{bytes_eq-Decides}}
+use Rattle.osek_values.proofs.Lists.{any_of_map}
 use Rattle.osek_standard.specs.Validity.{due_of, is_within, owners}
 use Rattle.oil_system.specs.declared.system.{CounterObject.{CounterObject}, IsrObject.{IsrObject}, TaskObject.{TaskObject}, System.{System}}
 use Rattle.task_code.specs.declared.tree.{Body.{Body}, BodyKind.{BodyKind}, Code.{Code}}
 use Rattle.task_code.specs.declared.tree.BodyKind.TheVariants as body_kind
 use Rattle.block_graph.specs.{Apps.{counters_from, counters_of, extent, isrs_of, tasks_of}, Blocks.{app_blocks, routine, routine_size, routines, size, source_blocks, source_size}}
 use Rattle.block_graph.specs.{Faults.{HasNoFault}, Rules.{has_owner, is_code_of, is_kind}}
-use Rattle.block_graph.proofs.{OwnersLaws.{routine_length, source_length}, ExtentsLists.{any_append_left, any_append_right, any_from_position, any_map, any_weaker, behind_front}}
+use Rattle.block_graph.proofs.{OwnersLaws.{routine_length, source_length}, ExtentsLists.{any_append_left, any_append_right, any_from_position, any_weaker, behind_front}}
 use Rattle.block_graph.proofs.{ExtentsPlaces.{extent_behind}, ExtentsApart.{counter_blocks, of_counters, of_isr, of_task, owners_are}}
 use Rattle.block_graph.proofs.ExtentsRules.{bodies_have_owners, first_of_owner}
 
@@ -59,13 +60,13 @@ declared_owner s bodies b body_kind.Task name declared inside =
     let found = any_weaker (λ (x : TaskObject). bytes_eq name x.name) (λ (x : TaskObject). is_within b (of_task s bodies x)) s.tasks
     (λ x e. subst (λ (n : List ℕ). is_within b (extent body_kind.Task n bodies 0) ≡ true) ((bytes_eq-Decides name x.name).0 e) inside) named in
     any_append_left (is_within b) (map (of_task s bodies) s.tasks) (map (of_isr s bodies) s.isrs)
-    (any_map (is_within b) (of_task s bodies) s.tasks found)
+    (any_of_map (is_within b) (of_task s bodies) s.tasks ∙ found)
 declared_owner s bodies b body_kind.Isr name declared inside =
     let named = any_from_position (λ (x : IsrObject). bytes_eq name x.name) s.isrs declared in
     let found = any_weaker (λ (x : IsrObject). bytes_eq name x.name) (λ (x : IsrObject). is_within b (of_isr s bodies x)) s.isrs
     (λ x e. subst (λ (n : List ℕ). is_within b (extent body_kind.Isr n bodies 0) ≡ true) ((bytes_eq-Decides name x.name).0 e) inside) named in
     any_append_right (is_within b) (map (of_task s bodies) s.tasks) (map (of_isr s bodies) s.isrs)
-    (any_map (is_within b) (of_isr s bodies) s.isrs found)
+    (any_of_map (is_within b) (of_isr s bodies) s.isrs ∙ found)
 
 -- ---- a block of a tick routine
 

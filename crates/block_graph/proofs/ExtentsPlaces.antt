@@ -1,7 +1,8 @@
 -- Where the blocks of bodies and of tick routines stand among those of the application, and what they keep there.
 use Rattle.std.proofs.Common.{◌≡◌, ℕ, zero, suc, ◌+◌, ◌<◌, List, [], ◌∷◌, ◌++◌, length, append_assoc, true, false, refl, sym, ap, ◌∙◌, subst, arith, inl, inr}
 use Rattle.std.specs.{Prelude.{◌||◌, slice_index_or, All}, List.{AllByRecursion, list_any}}
-use Rattle.std.proofs.lemmas.{Bool.{and_parts, cases_Bool, cond-false, cond-true, or_parts}, List.{length-append, Sums.{sum_by-cons}}}
+use Rattle.std.proofs.lemmas.{Bool.{and_parts, cases_Bool, cond-false, cond-true, or_parts}, List.{length-append, Elements.{All-from_recursion, recursion_from_All}, Sums.{sum_by-cons}}}
+use Rattle.osek_values.proofs.Lists.{each_map}
 use Rattle.osek_standard.specs.{declared.{block.Block.{Block}, objects.{Counter.{Counter}, Isr.{Isr}, Task.{Task}}}, Validity.{IsIsrCode, IsOwner, IsTaskCode, IsTickCode, due_of}}
 use Rattle.oil_system.specs.declared.system.{CounterObject.{CounterObject}, IsrObject.{IsrObject}, TaskObject.{TaskObject}, System.{System}}
 use Rattle.oil_model.specs.Linkable.{IsLinkable}
@@ -13,7 +14,7 @@ use Rattle.block_graph.specs.Apps.{counters_from, counters_of, extent, isr_with,
 use Rattle.block_graph.specs.{Blocks.{app_blocks, body_blocks, routine, routine_size, routines, size, source_blocks, source_size}, Faults.{HasNoFault}}
 use Rattle.block_graph.specs.Rules.{from_calls, is_code_of, is_kind}
 use Rattle.block_graph.proofs.OwnersLaws.{body_is_isr_code, body_is_owner, body_is_task_code, due_inside, routine_is_owner, routine_is_tick_code, routine_length, source_length}
-use Rattle.block_graph.proofs.ExtentsLists.{all_at, behind_front, each_map, each_of}
+use Rattle.block_graph.proofs.ExtentsLists.{behind_front}
 use Rattle.block_graph.proofs.OwnersCalls.{wrong_names}
 use Rattle.block_graph.proofs.ExtentsRules.{isrs_have_code, names_declared, tasks_have_code}
 
@@ -115,7 +116,7 @@ module _ (s : System) (code : Code) (linkable : IsLinkable s) (fit : AreFit code
   of_code P all kind name found = behind_front P found.before found.body found.behind (subst (AllByRecursion P) found.split all)
 
   code_fit : (kind : BodyKind) (name : List ℕ) (found : HasCode kind name bodies) → IsFit found.body
-  code_fit = of_code IsFit (each_of IsFit bodies fit)
+  code_fit = of_code IsFit (recursion_from_All IsFit bodies fit)
 
   code_declared : (kind : BodyKind) (name : List ℕ) (found : HasCode kind name bodies) → from_calls (wrong_names s) found.body.statements ≡ []
   code_declared = of_code (λ (body : Body). from_calls (wrong_names s) body.statements ≡ []) (names_declared s code clean)
@@ -128,7 +129,7 @@ module _ (s : System) (code : Code) (linkable : IsLinkable s) (fit : AreFit code
 
   pub each_task : All (λ (x : Task). IsOwner (tables_over s bodies (app_blocks s bodies)) x.first.0 x.count) (tasks_of s bodies)
   each_task =
-      all_at (λ (x : Task). IsOwner (tables_over s bodies (app_blocks s bodies)) x.first.0 x.count) (tasks_of s bodies)
+      All-from_recursion (λ (x : Task). IsOwner (tables_over s bodies (app_blocks s bodies)) x.first.0 x.count) (tasks_of s bodies)
       (each_map (λ (x : Task). IsOwner (tables_over s bodies (app_blocks s bodies)) x.first.0 x.count) (λ (x : TaskObject). task_with x (extent body_kind.Task x.name bodies 0)) s.tasks
       (all_weaker
       (λ (x : TaskObject). IsOwner (tables_over s bodies (app_blocks s bodies)) (extent body_kind.Task x.name bodies 0).0 (extent body_kind.Task x.name bodies 0).1)
@@ -136,7 +137,7 @@ module _ (s : System) (code : Code) (linkable : IsLinkable s) (fit : AreFit code
 
   pub each_isr : All (λ (x : Isr). IsOwner (tables_over s bodies (app_blocks s bodies)) x.first.0 x.count) (isrs_of s bodies)
   each_isr =
-      all_at (λ (x : Isr). IsOwner (tables_over s bodies (app_blocks s bodies)) x.first.0 x.count) (isrs_of s bodies)
+      All-from_recursion (λ (x : Isr). IsOwner (tables_over s bodies (app_blocks s bodies)) x.first.0 x.count) (isrs_of s bodies)
       (each_map (λ (x : Isr). IsOwner (tables_over s bodies (app_blocks s bodies)) x.first.0 x.count) (λ (x : IsrObject). isr_with x (extent body_kind.Isr x.name bodies 0)) s.isrs
       (all_weaker
       (λ (x : IsrObject). IsOwner (tables_over s bodies (app_blocks s bodies)) (extent body_kind.Isr x.name bodies 0).0 (extent body_kind.Isr x.name bodies 0).1)
@@ -152,7 +153,7 @@ module _ (s : System) (code : Code) (linkable : IsLinkable s) (fit : AreFit code
 
   pub task_code : All (λ (x : Task). IsTaskCode (tables_over s bodies (app_blocks s bodies)) x.first.0 x.count) (tasks_of s bodies)
   task_code =
-      all_at (λ (x : Task). IsTaskCode (tables_over s bodies (app_blocks s bodies)) x.first.0 x.count) (tasks_of s bodies)
+      All-from_recursion (λ (x : Task). IsTaskCode (tables_over s bodies (app_blocks s bodies)) x.first.0 x.count) (tasks_of s bodies)
       (each_map (λ (x : Task). IsTaskCode (tables_over s bodies (app_blocks s bodies)) x.first.0 x.count) (λ (x : TaskObject). task_with x (extent body_kind.Task x.name bodies 0)) s.tasks
       (all_weaker
       (λ (x : TaskObject). IsTaskCode (tables_over s bodies (app_blocks s bodies)) (extent body_kind.Task x.name bodies 0).0 (extent body_kind.Task x.name bodies 0).1)
@@ -169,7 +170,7 @@ module _ (s : System) (code : Code) (linkable : IsLinkable s) (fit : AreFit code
 
   pub isr_code : All (λ (x : Isr). IsIsrCode (tables_over s bodies (app_blocks s bodies)) x.first.0 x.count) (isrs_of s bodies)
   isr_code =
-      all_at (λ (x : Isr). IsIsrCode (tables_over s bodies (app_blocks s bodies)) x.first.0 x.count) (isrs_of s bodies)
+      All-from_recursion (λ (x : Isr). IsIsrCode (tables_over s bodies (app_blocks s bodies)) x.first.0 x.count) (isrs_of s bodies)
       (each_map (λ (x : Isr). IsIsrCode (tables_over s bodies (app_blocks s bodies)) x.first.0 x.count) (λ (x : IsrObject). isr_with x (extent body_kind.Isr x.name bodies 0)) s.isrs
       (all_weaker
       (λ (x : IsrObject). IsIsrCode (tables_over s bodies (app_blocks s bodies)) (extent body_kind.Isr x.name bodies 0).0 (extent body_kind.Isr x.name bodies 0).1)

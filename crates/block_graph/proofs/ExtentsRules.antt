@@ -1,7 +1,7 @@
 -- What holds of the bodies where no rule is violated.
-use Rattle.std.proofs.Common.{◌≡◌, ℕ, ◌≤◌, List, [], ◌∷◌, ◌++◌, length, drop, length-drop, Bool, true, false, refl, sym, ap, subst, arith}
+use Rattle.std.proofs.Common.{◌≡◌, ℕ, ◌≤◌, List, [], ◌∷◌, ◌++◌, length, drop, length-drop, append_assoc, Bool, true, false, refl, sym, ap, subst, arith}
 use Rattle.std.specs.{Prelude.{◌||◌, filter, if◌then◌else◌}, List.{AllByRecursion, list_any}}
-use Rattle.std.proofs.lemmas.{Bool.{or_parts, not-false}, List.{length-append, Sums.{sum_by-cons}}}
+use Rattle.std.proofs.lemmas.{Bool.{or_parts, not-false}, List.{append-nil, length-append, Sums.{sum_by-cons}}}
 use Rattle.osek_values.specs.declared.refusal.CodeRule.TheVariants.{C1, C2, C3, C4, C8, C10}
 use Rattle.oil_system.specs.declared.system.{IsrObject.{IsrObject}, TaskObject.{TaskObject}, System.{System}}
 use Rattle.oil_model.specs.Rules.{repeated}
@@ -11,7 +11,7 @@ use Rattle.task_code.specs.Statements.{Statements, closed, work_then, if_then, i
 use Rattle.block_graph.specs.{Blocks.{size, source_size}, Faults.{HasNoFault}}
 use Rattle.block_graph.specs.Rules.{beyond_limit, block_lines, first_only, from_calls, has_owner, has_same_owner, internal_in, internal_resources, is_code_of, is_stray, lacks_code, line_of_body, missing_code, repeated_code, statement_lines, stray_code, undeclared_in, undeclared_names}
 use Rattle.block_graph.proofs.OwnersCalls.{wrong_names, no_wrong_name}
-use Rattle.block_graph.proofs.ExtentsLists.{append_none, append_push, none_of}
+use Rattle.block_graph.proofs.ExtentsLists.{none_of}
 
 -- ---- no fault
 
@@ -23,9 +23,9 @@ first_none (x ∷ xs) e = absurd cc
 pub not_repeated : {X : Type 0} (same : X → X → Bool) (before front : List X) (x : X) (more : List X) → repeated same before (front ++ x ∷ more) ≡ [] → list_any (same x) (before ++ front) ≡ false
 not_repeated same before [] x more e =
     let new : list_any (same x) before ≡ false = mark_empty (list_any (same x) before) x (left_empty _ _ e) in
-    subst (λ xs. list_any (same x) xs ≡ false) (sym (append_none before)) new
+    subst (λ xs. list_any (same x) xs ≡ false) (sym (append-nil before)) new
 not_repeated {X} same before (y ∷ front) x more e =
-    subst (λ xs. list_any (same x) xs ≡ false) (append_push before y front)
+    subst (λ xs. list_any (same x) xs ≡ false) (append_assoc before (y ∷ []) front)
     (not_repeated same (before ++ y ∷ []) front x more (right_empty (if list_any (same y) before then y ∷ [] else []) _ e))
 
 module _ (s : System) (code : Code) (clean : HasNoFault s code) where

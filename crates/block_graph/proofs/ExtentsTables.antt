@@ -1,18 +1,18 @@
 -- What the tables of the application keep of those of the system, and how many blocks there are.
-use Rattle.std.proofs.Common.{◌≡◌, ℕ, zero, suc, ◌+◌, ◌*◌, ◌<◌, ◌≤◌, ◌^◌, List, [], ◌∷◌, length, map, Bool, true, false, cond, eqb, leb, refl, sym, ap, ◌∙◌, subst, arith}
-use Rattle.std.proofs.lemmas.{Bool.Decides.{nat_tests}, List.{length-append, length-map, Sums.{count_by-le-length, sum_by-cons}}}
-use Rattle.std.specs.{Prelude.{◌||◌, ◌&&◌, ◌==◌, nat_le, slice_index_or, All, Option, Some, None, count_by}, List.{enumerate_from, filter}}
-use Rattle.osek_values.specs.{Names.{AreNames}, declared.numbers.ResNo.{ResNo}}
+use Rattle.std.proofs.Common.{◌≡◌, ℕ, zero, suc, ◌+◌, ◌*◌, ◌<◌, ◌≤◌, ◌^◌, List, [], ◌∷◌, length, map, true, cond, eqb, leb, refl, sym, ap, ◌∙◌, subst, arith}
+use Rattle.std.proofs.lemmas.{Bool.Decides.{nat_tests}, List.{length-append, length-map, Elements.{All-from_recursion, recursion_from_All}, Sums.{count_by-le-length, sum_by-cons}}, Simd.{map-map}}
+use Rattle.std.specs.Prelude.{◌||◌, ◌&&◌, ◌==◌, nat_le, slice_index_or, All, Option, Some, None, count_by}
+use Rattle.osek_values.{specs.{Names.{AreNames}, declared.numbers.ResNo.{ResNo}}, proofs.Lists.{each_map}}
 use Rattle.oil_system.specs.declared.{objects.{Action.{Action}, Alarm.{Alarm}}, system.{CounterObject.{CounterObject}, IsrObject.{IsrObject}, TaskObject.{TaskObject}, System.{System}}}
 use Rattle.oil_system.specs.declared.objects.Action.TheVariants as action
 use Rattle.osek_standard.specs.declared.{objects.{Counter.{Counter}, Isr.{Isr}, Task.{Task}}, block.Block.{Block}}
-use Rattle.osek_standard.specs.Validity.{IsAction, IsAlarmOf, IsInternal, due_of, is_cycle_of, no_counter}
+use Rattle.osek_standard.{specs.Validity.{IsAction, IsAlarmOf, IsInternal, due_of, is_cycle_of, no_counter}, proofs.DueAlarms.{due_count}}
 use Rattle.oil_model.specs.Linkable.{IsActionAmong, IsAlarmAmong, IsInternalAmong, IsLinkable, is_cycle_of_object, no_counter_object}
 use Rattle.task_code.specs.declared.tree.{Body.{Body}, Code.{Code}}
 use Rattle.task_code.specs.declared.tree.BodyKind.TheVariants as body_kind
 use Rattle.block_graph.specs.Apps.{counters_from, counters_of, extent, isr_with, isrs_of, tables_over, task_with, tasks_of}
 use Rattle.block_graph.specs.{Blocks.{app_blocks, routine, routine_size, routines, source_blocks, source_size}, Faults.{HasNoFault}}
-use Rattle.block_graph.proofs.{OwnersCalls.{task_count}, OwnersLaws.{routine_length, source_length}, ExtentsLists.{all_at, each_map, each_of, mapped_twice}}
+use Rattle.block_graph.proofs.{OwnersCalls.{task_count}, OwnersLaws.{routine_length, source_length}}
 use Rattle.block_graph.proofs.ExtentsRules.{few_source_blocks}
 
 -- ---- counters
@@ -50,24 +50,6 @@ cycle_kept : (x : Counter) (o : CounterObject) (cycle : ℕ) → HasBounds x o �
 cycle_kept x o cycle same e = (λ i. (cycle == 0) || (nat_le (same.1 i) cycle && nat_le cycle (same.0 i))) ∙ e
 
 -- ---- how many blocks there are
-
--- the alarms from a number on
-abbrev due_from : ℕ → List Alarm → ℕ → List ℕ
-due_from n alarms c = map (λ (p : ℕ × Alarm). p.0) (filter (λ (p : ℕ × Alarm). eqb p.1.counter.0 c) (enumerate_from n alarms))
-
-counted : (is : Bool) (n : ℕ) (x : Alarm) (others : List (ℕ × Alarm)) (k : ℕ) → k ≡ length (map (λ (p : ℕ × Alarm). p.0) others)
-    → length (map (λ (p : ℕ × Alarm). p.0) (cond is ((n, x) ∷ others) others)) ≡ cond is 1 0 + k
-counted true n x others k e = omega (arith, e)
-counted false n x others k e = omega (arith, e)
-
-due_count_from : (n : ℕ) (alarms : List Alarm) (c : ℕ) → length (due_from n alarms c) ≡ count_by (λ (x : Alarm). eqb x.counter.0 c) alarms
-due_count_from n [] c = refl
-due_count_from n (x ∷ xs) c =
-    counted (eqb x.counter.0 c) n x (filter (λ (p : ℕ × Alarm). eqb p.1.counter.0 c) (enumerate_from (n + 1) xs)) (count_by (λ (y : Alarm). eqb y.counter.0 c) xs) (sym (due_count_from (n + 1) xs c))
-    ∙ sym (sum_by-cons (λ (y : Alarm). cond (eqb y.counter.0 c) 1 0) x xs)
-
-due_count : (alarms : List Alarm) (c : ℕ) → length (due_of alarms c) ≡ count_by (λ (x : Alarm). eqb x.counter.0 c) alarms
-due_count alarms c = due_count_from 0 alarms c
 
 -- an alarm of a counter is none of a later one
 one_more : (k c : ℕ) → cond (eqb k c) 1 0 + cond (leb (c + 1) k) 1 0 ≤ cond (leb c k) 1 0
@@ -108,10 +90,10 @@ module _ (s : System) (bodies : List Body) where
 
 module _ (s : System) (bodies : List Body) (linkable : IsLinkable s) where
   pub task_names : AreNames (map (λ (x : Task). x.name) (tasks_of s bodies))
-  task_names = subst AreNames (sym (mapped_twice (λ (x : TaskObject). task_with x (extent body_kind.Task x.name bodies 0)) (λ (x : Task). x.name) s.tasks)) linkable.task_names
+  task_names = subst AreNames (sym (map-map (λ (x : Task). x.name) (λ (x : TaskObject). task_with x (extent body_kind.Task x.name bodies 0)) s.tasks)) linkable.task_names
 
   pub isr_names : AreNames (map (λ (x : Isr). x.name) (isrs_of s bodies))
-  isr_names = subst AreNames (sym (mapped_twice (λ (x : IsrObject). isr_with x (extent body_kind.Isr x.name bodies 0)) (λ (x : Isr). x.name) s.isrs)) linkable.isr_names
+  isr_names = subst AreNames (sym (map-map (λ (x : Isr). x.name) (λ (x : IsrObject). isr_with x (extent body_kind.Isr x.name bodies 0)) s.isrs)) linkable.isr_names
 
   pub counter_names : AreNames (map (λ (x : Counter). x.name) (counters_of s bodies))
   counter_names = subst AreNames (sym (counter_name s s.counters 0 (source_size bodies))) linkable.counter_names
@@ -119,16 +101,16 @@ module _ (s : System) (bodies : List Body) (linkable : IsLinkable s) where
   -- what is so of each task of the system
   pub each_task_keeps : (P : Task → Type 0) → All (λ (x : TaskObject). P (task_with x (extent body_kind.Task x.name bodies 0))) s.tasks → All P (tasks_of s bodies)
   each_task_keeps P h =
-      all_at P (tasks_of s bodies)
+      All-from_recursion P (tasks_of s bodies)
       (each_map P (λ (x : TaskObject). task_with x (extent body_kind.Task x.name bodies 0)) s.tasks
-      (each_of (λ (x : TaskObject). P (task_with x (extent body_kind.Task x.name bodies 0))) s.tasks h))
+      (recursion_from_All (λ (x : TaskObject). P (task_with x (extent body_kind.Task x.name bodies 0))) s.tasks h))
 
   -- what is so of each ISR of the system
   pub each_isr_keeps : (P : Isr → Type 0) → All (λ (x : IsrObject). P (isr_with x (extent body_kind.Isr x.name bodies 0))) s.isrs → All P (isrs_of s bodies)
   each_isr_keeps P h =
-      all_at P (isrs_of s bodies)
+      All-from_recursion P (isrs_of s bodies)
       (each_map P (λ (x : IsrObject). isr_with x (extent body_kind.Isr x.name bodies 0)) s.isrs
-      (each_of (λ (x : IsrObject). P (isr_with x (extent body_kind.Isr x.name bodies 0))) s.isrs h))
+      (recursion_from_All (λ (x : IsrObject). P (isr_with x (extent body_kind.Isr x.name bodies 0))) s.isrs h))
 
   pub task_starts : All (λ (x : Task). x.autostart < 2 ^ length s.modes) (tasks_of s bodies)
   task_starts = each_task_keeps (λ (x : Task). x.autostart < 2 ^ length s.modes) linkable.task_starts

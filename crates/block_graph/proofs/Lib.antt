@@ -1,5 +1,4 @@
 pub mod BlockMasks
-pub mod BlocksDue
 pub mod BlocksSteps
 pub mod BlocksTicks
 pub mod ExtentsApart

@@ -2,6 +2,7 @@
 use Rattle.std.proofs.Common.{◌≡◌, ℕ, ◌<◌, ◌≤◌, Bool, true, false, cond, ltb, List, [], ◌∷◌, ◌++◌, length, refl, sym, ap, subst, arith, IsTrue}
 use Rattle.std.proofs.lemmas.{Bool.{ltb-true}, List.{length-map}, Nat.{le_or_l}}
 use Rattle.std.specs.{Prelude.{All, Option, Some, None, unwrap_or, not}, List.{position, position_or_len, flat_map}}
+use Rattle.osek_values.proofs.Lists.{both_empty}
 use Rattle.oil_system.specs.declared.system.{EventObject.{EventObject}, TaskObject.{TaskObject}, System.{System}}
 use Rattle.osek_standard.specs.{declared.block.Block.{Block}, Tables.{Tables}}
 use Rattle.osek_standard.specs.Validity.{IsOtherWay, NamesEntries, isr_may, is_own_next, task_may, is_internal}
@@ -13,10 +14,6 @@ use Rattle.block_graph.specs.Rules.{from_calls, internal_at, internal_in, intern
 use Rattle.task_code.specs.Statements.{Statements, closed, work_then, if_then, if_else_then, while_then, call_then}
 use Rattle.oil_model.proofs.Clean.{mark_empty}
 use Rattle.block_graph.specs.Blocks as graph
-
-pub both_empty : (a b : List ℕ) → a ++ b ≡ [] → (a ≡ []) × (b ≡ [])
-both_empty [] b e = (refl, e)
-both_empty (x ∷ a) b e = absurd cc
 
 none_in_both : (a b : List ℕ) → a ≡ [] → b ≡ [] → a ++ b ≡ []
 none_in_both a b e f = λ i. e i ++ f i

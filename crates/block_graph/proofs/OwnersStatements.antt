@@ -1,6 +1,7 @@
 -- What the blocks of statements keep.
 use Rattle.std.proofs.Common.{◌≡◌, ℕ, ◌+◌, ◌<◌, ◌≤◌, false, List, [], ◌++◌, length, refl, arith, IsTrue, length-append}
 use Rattle.std.specs.Prelude.{All}
+use Rattle.osek_values.proofs.Lists.{both_empty}
 use Rattle.oil_system.specs.declared.system.{EventObject.{EventObject}, System.{System}}
 use Rattle.osek_standard.specs.{declared.block.Block.{Block}, Validity.{IsAmong, IsBlock, isr_may, is_own_next, task_may}}
 use Rattle.task_code.specs.{declared.tree.{Body.{Body}, Condition.TheVariants.{Choice, Always}}, Fit.{HasCounts, HasMasks}}
@@ -8,7 +9,7 @@ use Rattle.task_code.specs.Statements.{Statements, closed, work_then, if_then, i
 use Rattle.task_code.proofs.FitLaws.{count_range}
 use Rattle.block_graph.specs.{declared.locks.Opener.{Opener}, Apps.{tables_over}, Blocks.{blocks_of, entry}, Locks.{open_behind, open_behind_call}}
 use Rattle.block_graph.specs.Rules.{from_calls}
-use Rattle.block_graph.proofs.{OwnersCalls.{both_empty, wrong_names, call_names_entries, call_in_task, call_in_isr, call_goes_on, call_has_one_way}, OwnersEach.{AllFrom, all_from_append}}
+use Rattle.block_graph.proofs.{OwnersCalls.{wrong_names, call_names_entries, call_in_task, call_in_isr, call_goes_on, call_has_one_way}, OwnersEach.{AllFrom, all_from_append}}
 
 -- each statement is a block
 pub blocks_length : (s : System) (xs : Statements) (n after : ℕ) (locks : List Opener) → length (blocks_of s xs n after locks) ≡ nodes xs

@@ -6,7 +6,7 @@ use Rattle.oil_system.specs.declared.system.System.{System}
 use Rattle.oil_model.specs.Linkable.{IsLinkable}
 use Rattle.task_code.specs.{declared.tree.Code.{Code}, Fit.{AreFit}}
 use Rattle.osek_values.specs.declared.{refused.LineFault.{LineFault}, refusal.CodeRule.{CodeRule, TheVariants.{C1}}}
-use Rattle.block_graph.specs.{Answers.{IsAnswer}, Apps.{tables_over, tasks_of, isrs_of, counters_of}, Blocks.{app_blocks}, Faults.{order, HasNoFault, IsLeastOrNone}}
+use Rattle.block_graph.specs.{Answers.{IsAnswer}, Apps.{tables_over, tasks_of, isrs_of, counters_of}, declared.linker.Generated.{Generated}, Generated.{Generates}, Blocks.{app_blocks}, Faults.{order, HasNoFault, IsLeastOrNone}}
 use Rattle.osek_values.proofs.LeastFaults.{least_or_none}
 use Rattle.block_graph.proofs.{LeastFaults.{rules, lines_in, all}, Valid.{valid}}
 
@@ -19,6 +19,11 @@ valid_with s code linkable fit clean tasks isrs counters blocks same_tasks same_
     let same : tables_over s code.bodies (app_blocks s code.bodies) ≡ tabled s.hooks tasks isrs counters s.alarms s.resources s.modes blocks =
     (λ i. tabled s.hooks (sym same_tasks i) (sym same_isrs i) (sym same_counters i) s.alarms s.resources s.modes (sym same_blocks i)) in
     subst IsValid same (valid s code linkable fit clean)
+
+-- and so are those of what was generated
+pub valid_generated : (s : System) (code : Code) (g : Generated) → IsLinkable s → AreFit code → Generates s code (Ok g)
+    → IsValid (tabled s.hooks g.tasks g.isrs g.counters s.alarms s.resources s.modes g.blocks)
+valid_generated s code g linkable fit made = valid_with s code linkable fit made.0 g.tasks g.isrs g.counters g.blocks made.1.tasks made.1.isrs made.1.counters made.1.blocks
 
 -- the application of a system and its code that have no fault
 abbrev app_of : (s : System) (code : Code) → IsLinkable s → AreFit code → HasNoFault s code → App

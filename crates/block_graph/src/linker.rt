@@ -5,10 +5,9 @@ ghost use Rattle.oil_system.specs.declared.system.System.{System};
 ghost use Rattle.oil_model.specs.Linkable.{IsLinkable};
 ghost use Rattle.task_code.specs.{declared.tree.Code.{Code}, Fit.{IsFit, AreFit}};
 ghost use Rattle.osek_values.specs.{declared.{refused.LineFault.{LineFault}, refusal.CodeRule.{CodeRule}}, Answers.{IsRight, Answers}};
-ghost use Rattle.block_graph.specs.{Answers.{IsAnswer}, Apps.{HasApp}, Generated.{IsGenerated}, Blocks.{source_size as the_source_size, app_blocks as the_app_blocks}};
-ghost use Rattle.block_graph.specs.Faults.{HasNoFault, IsLeastOrNone};
+ghost use Rattle.block_graph.specs.{Answers.{IsAnswer}, Generated.{IsGenerated, Generates}, Blocks.{source_size as the_source_size, app_blocks as the_app_blocks}};
 
-use crate::fault::{LinkError, LinkFault};
+use crate::fault::LinkError;
 use crate::layout::{lay_out_bodies, source_size};
 use crate::least_fault::least_fault;
 use crate::names::Declared;
@@ -21,16 +20,15 @@ use std::alloc::Global;
 use task_code::{Body, Code};
 
 /// The blocks of the bodies, and behind them those of the tick routines.
-fn app_blocks(alloc: Global, system: &System, bodies: &[Body]) -> Result<Seq<Block>, Memory>
-    requires linkable { IsLinkable system.now }
+fn app_blocks(alloc: Global, declared: &Declared, bodies: &[Body]) -> Result<Seq<Block>, Memory>
+    requires linkable { IsLinkable declared.now }
     requires fit { All IsFit bodies.now }
     requires room { the_source_size bodies.now ≤ 1024 }
-    ensures { IfOk result (λ blocks. blocks ≡ the_app_blocks system.now bodies.now) }
+    ensures { IfOk result (λ blocks. blocks ≡ the_app_blocks declared.now bodies.now) }
 {
     let mut blocks = Vec::new(alloc);
-    let declared = Declared::of(alloc, system)?;
-    lay_out_bodies(&declared, bodies, &mut blocks)?;
-    lay_out_routines(system, source_size(bodies), &mut blocks)?;
+    lay_out_bodies(declared, bodies, &mut blocks)?;
+    lay_out_routines(declared.system(), source_size(bodies), &mut blocks)?;
     Ok(Seq::of(blocks))
 }
 
@@ -44,16 +42,17 @@ struct Generated {
 }
 
 /// Generates what a system has of its bodies.
-fn generate(alloc: Global, system: &System, bodies: &[Body]) -> Result<Generated, Memory>
-    requires linkable { IsLinkable system.now }
+fn from_bodies(alloc: Global, declared: &Declared, bodies: &[Body]) -> Result<Generated, Memory>
+    requires linkable { IsLinkable declared.now }
     requires fit { All IsFit bodies.now }
     requires room { the_source_size bodies.now ≤ 1024 }
-    ensures { IfOk result (IsGenerated system.now bodies.now) }
+    ensures { IfOk result (IsGenerated declared.now bodies.now) }
 {
+    let system = declared.system();
     let tasks = tasks(alloc, system, bodies)?;
     let isrs = isrs(alloc, system, bodies)?;
     let counters = counters(alloc, system, source_size(bodies))?;
-    let blocks = app_blocks(alloc, system, bodies)?;
+    let blocks = app_blocks(alloc, declared, bodies)?;
     Ok(Generated {
         tasks,
         isrs,
@@ -62,14 +61,37 @@ fn generate(alloc: Global, system: &System, bodies: &[Body]) -> Result<Generated
     })
 }
 
-/// The application of a system and its code that have no fault.
-fn app(alloc: Global, system: System, code: &Code) -> Result<App, Memory>
+/// What a system has of its task code where they have no fault, or their least fault.
+fn judged(alloc: Global, declared: &Declared, code: &Code) -> Result<Generated, LinkError>
+    requires linkable { IsLinkable declared.now }
+    requires fit { AreFit code.now }
+    ensures { IsRight (Generates declared.now code.now) result }
+{
+    match least_fault(declared, code) {
+        Some(fault) => Err(LinkError::Fault(fault)),
+        None => {
+            let generated = from_bodies(alloc, declared, code.bodies.as_slice())?;
+            Ok(generated)
+        }
+    }
+}
+
+/// The same of a system whose names have no numbers yet.
+fn generate(alloc: Global, system: &System, code: &Code) -> Result<Generated, LinkError>
+    requires linkable { IsLinkable system.now }
+    requires fit { AreFit code.now }
+    ensures { IsRight (Generates system.now code.now) result }
+{
+    let declared = Declared::of(alloc, system)?;
+    judged(alloc, &declared, code)
+}
+
+fn answer(alloc: Global, system: System, code: &Code) -> Result<App, LinkError>
     requires linkable { IsLinkable system }
     requires fit { AreFit code.now }
-    requires no_fault { HasNoFault system code.now }
-    ensures { IfOk result (λ app. HasApp system code.now app) }
+    ensures { IsRight (λ r. IsAnswer r system code.now) result }
 {
-    let generated = generate(alloc, &system, code.bodies.as_slice())?;
+    let generated = generate(alloc, &system, code)?;
     Ok(App {
         hooks: system.hooks,
         tasks: generated.tasks,
@@ -80,32 +102,6 @@ fn app(alloc: Global, system: System, code: &Code) -> Result<App, Memory>
         modes: system.modes,
         blocks: generated.blocks,
     })
-}
-
-/// The least fault of a system and its task code, if they have one.
-fn fault(alloc: Global, system: &System, code: &Code) -> Result<Option<LinkFault>, Memory>
-    requires { IsLinkable system.now }
-    ensures { IfOk result (λ fault. IsLeastOrNone fault system.now code.now) }
-{
-    let declared = Declared::of(alloc, system)?;
-    Ok(least_fault(&declared, code))
-}
-
-fn answer(alloc: Global, system: System, code: &Code) -> Result<App, LinkError>
-    requires linkable { IsLinkable system }
-    requires fit { AreFit code.now }
-    ensures { IsRight (λ r. IsAnswer r system code.now) result }
-{
-    match fault(alloc, &system, code)? {
-        Some(fault) => {
-            drop(system);
-            Err(LinkError::Fault(fault))
-        }
-        None => {
-            let app = app(alloc, system, code)?;
-            Ok(app)
-        }
-    }
 }
 
 /// The application of a system and its task code (this project's profile), or their least fault by rule and line. The

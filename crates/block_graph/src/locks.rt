@@ -10,7 +10,7 @@ use std::marker::Model;
 use task_code::Call;
 
 /// An interrupt lock, by the service that opens it (ISO 17356-3, interrupt handling).
-#[derive(Clone, Copy, Debug, Default, PartialEq, Eq)]
+#[derive(Clone, Copy, Default)]
 pub enum Opener {
     #[default]
     SuspendAll,
@@ -19,7 +19,7 @@ pub enum Opener {
 }
 
 /// What a lock call does.
-#[derive(Clone, Copy, Debug, PartialEq, Eq)]
+#[derive(Clone, Copy)]
 pub enum Role {
     Opens(Opener),
     /// It closes the lock that was opened last, which has to be this one.

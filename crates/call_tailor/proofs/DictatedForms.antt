@@ -7,7 +7,8 @@ use Rattle.osek_standard.specs.declared.{app.App.{App}, state.State.{State}}
 use Rattle.osek_standard.specs.{Apps.{is_site}, Effects.{effect}, Dispatch.{Outcome, To, outcome, settled, instruction}, Well.{Well}}
 use Rattle.osek_standard.proofs.StepKeeps.{instruction_keeps}
 use Rattle.image_model.specs.{declared.site.{Form.{Form}, Known.{Known}, Site.{Site}}, Sites.{IsForm, IsSiteAt, AreSites}}
-use Rattle.abstract_state.specs.{declared.table.PlainTable.{PlainTable}, Tables.{sets_of}, Written.{IsWritten}, Forms.{FormOf, KnownOf}}
+use Rattle.abstract_state.specs.{declared.table.PlainTable.{PlainTable}, Tables.{sets_of}, Written.{IsWritten}}
+use Rattle.dictated_forms.specs.Forms.{FormOf, KnownOf}
 use Rattle.flow_model.specs.declared.case.Decision.TheVariants as decision
 use Rattle.flow_model.specs.Scheduling.{outcome_of_decision}
 use Rattle.flow_check.specs.declared.found.{Found.{Found}, Findings.{Findings}}

@@ -3,7 +3,8 @@ ghost use Rattle.std.specs.Prelude.{◌≡◌, ◌<◌, ℕ, List, length, map, 
 ghost use Rattle.osek_values.specs.declared.{event.Event.{Event}, numbers.ModeNo.{ModeNo}};
 ghost use Rattle.image_model.specs.declared.image.Version.TheVariants as version;
 ghost use Rattle.image_model.specs.Laws.{IsKernelsRun};
-ghost use Rattle.abstract_state.specs.{Tables.{Inductive, sets_of}, Written.{IsWritten}, Forms.{HasDictatedForms, HasDictatedStatuses}};
+ghost use Rattle.abstract_state.specs.{Tables.{Inductive, sets_of}, Written.{IsWritten}};
+ghost use Rattle.dictated_forms.specs.Forms.{HasDictatedForms, HasDictatedStatuses};
 ghost use Rattle.call_tailor.specs.Tailored.{site_of as site_by};
 
 use flow_check::{Findings, findings};

@@ -1,19 +1,10 @@
 -- What a Live task has: its INTERNAL resource where it is inside, and then its stack.
-use Rattle.std.proofs.Common.{◌≡◌, ℕ, List, [], refl, ap, ◌∙◌, Some, None}
-use Rattle.std.specs.{Prelude.{if◌then◌else◌}, List.{cons_option}, declared.option.Option.{Option}}
+use Rattle.std.proofs.Common.{◌≡◌, ℕ, List, [], ap, ◌∙◌, None}
+use Rattle.std.specs.{Prelude.{if◌then◌else◌}, List.{cons_option}}
 use Rattle.osek_values.specs.declared.numbers.ResNo.{ResNo}
 use Rattle.osek_standard.specs.{declared.{app.App.{App}, task_state.{Activity.TheVariants.{Live}, Standing.{Standing}, TaskState.{TaskState}}}, Internal.{internal_of, occupied}}
 use Rattle.osek_standard.specs.{Priority.{highest}, Levels.{highest_level}}
-
-highest_of_both : (app : App) (base : ℕ) (o : Option ResNo) (h : List ResNo) → highest app (highest app base (cons_option o [])) h ≡ highest app base (cons_option o h)
-unfolding highest
-highest_of_both app base None h = refl
-highest_of_both app base (Some r) h = refl
-
-level_of_both : (app : App) (own : ℕ) (o : Option ResNo) (h : List ResNo) → highest_level app (highest_level app own (cons_option o [])) h ≡ highest_level app own (cons_option o h)
-unfolding highest_level
-level_of_both app own None h = refl
-level_of_both app own (Some r) h = refl
+use Rattle.osek_standard.proofs.CeilingLaws.{highest_of_both, level_of_both}
 
 module _ (app : App) (t : ℕ) (x y : TaskState) (at : Standing) (h : List ResNo) (is : y ≡ x) (live : x.activity ≡ Live at) (same : h ≡ at.held) where
   abbrev inner : List ResNo

@@ -3,7 +3,7 @@ use Rattle.std.specs.{Prelude.{◌≡◌, ◌<◌, ◌≤◌, ◌+◌, ◌⊎◌
 use Rattle.osek_values.specs.declared.{limits.TheConstants.{MAX_FILE, MAX_TABLE, MAX_EVENT_TEXT, MAX_RECORD}, refusal.LexRule.TheVariants.{L6}}
 use Rattle.osek_values.specs.declared.refusal.Rule.TheVariants as rule
 use Rattle.osek_values.specs.declared.refusal.TextFile.TheVariants as file
-use Rattle.image_codec.specs.declared.fault.ImageRule.TheVariants.{I7}
+use Rattle.image_fields.specs.declared.fault.ImageRule.TheVariants.{I7}
 use Rattle.trace_text.specs.declared.fault.{EventFault.TheVariants.{E4}, PointFault.TheVariants.{G4}}
 use Rattle.table_codec.specs.declared.fault.TableRule.TheVariants.{K6}
 use Rattle.osek_io.specs.{Counts.{RoseSomewhere}, Files.{Files, Holds, IsMissing}, declared.loading.LoadError.{LoadError}}

@@ -2,7 +2,8 @@
 use Rattle.std.specs.Prelude.{◌≡◌, ◌⊎◌, ℕ, ◌<◌, ◌≤◌, List, length, Option, Result, Err}
 use Rattle.osek_values.specs.declared.limits.TheConstants.{MAX_FILE}
 use Rattle.image_model.specs.declared.image.Image.{Image}
-use Rattle.image_codec.specs.{declared.fault.{ImageFault.{ImageFault}, ImageRule.TheVariants.{I7}}, Spelling.{spelling}, Fits.{FitsFormat}, ImageReading.{read_image}}
+use Rattle.image_codec.specs.{declared.fault.ImageFault.{ImageFault}, Spelling.{spelling}, Fits.{FitsFormat}, ImageReading.{read_image}}
+use Rattle.image_fields.specs.declared.fault.ImageRule.TheVariants.{I7}
 use Rattle.image_model.specs.ImageTrace.{has_trap}
 use Rattle.osek_io.specs.Files.{Files}
 use Rattle.command_runs.specs.{Inputs.{OfFile, InputStops}, Outside.{Told, Outside}, Running.{RunAnswers}, Shown.{shown_trace}}

@@ -96,7 +96,7 @@ fn any_takes(forms: &[Form], verb: &str, count: usize) -> bool
     forms.iter().any(|form| takes(form, verb, count))
 }
 
-#[tactic(auto, using(crate::proofs::VerbLists::any_of_map))]
+#[tactic(auto, using(osek_values::proofs::Lists::any_of_map))]
 fn is_verb(verb: &str, count: usize) -> bool
     ensures { result ≡ is_a_verb verb.now count }
 {

@@ -5,8 +5,6 @@ mod command;
 mod forms;
 mod given;
 mod numerals;
-#[cfg(test)]
-mod tests;
 
 pub use command::parse_words;
 pub use forms::has_form;

@@ -5,7 +5,7 @@ use Rattle.osek_standard.specs.declared.app.App.{App}
 use Rattle.image_model.specs.declared.image.Image.{Image}
 use Rattle.image_codec.specs.Spelling.{spelling}
 use Rattle.abstract_state.specs.{declared.table.PlainTable.{PlainTable}, Tables.{Inductive, sets_of}}
-use Rattle.abstract_state.proofs.ImageLaws.{fitting_run}
+use Rattle.dictated_forms.proofs.ImageLaws.{fitting_run}
 use Rattle.table_codec.specs.Spelling.{spelling as table_spelling}
 use Rattle.osek_io.specs.Files.{Files}
 use Rattle.command_runs.specs.{Replaying.{SpellImage}, declared.stop.Stop.{Stop}}

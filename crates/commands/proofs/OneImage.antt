@@ -9,8 +9,10 @@ use Rattle.front_end.proofs.OneAnswer.{one_oil, one_code}
 use Rattle.image_model.specs.{declared.{image.Image.{Image}, site.{Form.{Form}, Known.{Known}, Site.{Site}}}, Sites.{IsSiteAt}}
 use Rattle.image_codec.specs.Spelling.{spelling}
 use Rattle.image_codec.proofs.DecodeLaws.{image_ext}
-use Rattle.abstract_state.specs.{Forms.{FormOf, KnownOf, HasDictatedForms, HasDictatedStatuses}, Tables.{Sets}}
-use Rattle.abstract_state.proofs.{ContainmentLaws.{one_least}, FormLaws.{one_form, one_known}}
+use Rattle.dictated_forms.specs.Forms.{FormOf, KnownOf, HasDictatedForms, HasDictatedStatuses}
+use Rattle.abstract_state.specs.Tables.{Sets}
+use Rattle.abstract_state.proofs.ContainmentLaws.{one_least}
+use Rattle.dictated_forms.proofs.FormLaws.{one_form, one_known}
 use Rattle.commands.specs.{Fitting.{IsFitted}, Laws.{OneImageIsBuilt}}
 
 abbrev form_of_site : Option Site → Option Form

@@ -5,12 +5,15 @@ use Rattle.osek_standard.specs.{declared.app.App.{App}, Counts.{points, height},
 use Rattle.oil_system.specs.declared.system.System.{System}
 use Rattle.front_end.specs.Texts.{DeclaresSystem, GivesApp}
 use Rattle.front_end.proofs.OneAnswer.{one_oil, one_code}
-use Rattle.abstract_state.specs.{declared.{table.PlainTable.{PlainTable}, edge.FlowEdge.{FlowEdge}}, Forms.{HasDictatedForms}, Tables.{sets_of, value_count}}
+use Rattle.abstract_state.specs.{declared.{table.PlainTable.{PlainTable}, edge.FlowEdge.{FlowEdge}}, Tables.{sets_of, value_count}}
+use Rattle.dictated_forms.specs.Forms.{HasDictatedForms}
 use Rattle.global_cfg.specs.Edges.{IsBefore}
 use Rattle.flow_report.specs.{declared.finding.Finding.{Finding}, Findings.{Holds}, FindingOrder.{Rank, rank}}
 use Rattle.flow_report.specs.FindingOrder.{IsBefore as IsBeforeRank}
 use Rattle.trace_text.specs.EventText.{read_text}
-use Rattle.flow_text.specs.{declared.gen_line.AnalysisCounts.{AnalysisCounts}, FlowLines.{counts_line}, GeneratedLine.{gen_line, text_size}, Texts.{edges_text, report_text}}
+use Rattle.flow_text.specs.{declared.gen_line.AnalysisCounts.{AnalysisCounts}, FlowLines.{counts_line}, GeneratedLine.{gen_line, text_size}}
+use Rattle.flow_text.specs.Texts.{edges_text}
+use Rattle.flow_report.specs.FindingLines.{report_text}
 use Rattle.commands.specs.{Generating.{AreLeastCounts, TellsRun}, OneText.{OneTextIsOf, OneTextIsShown, OneReportIsPrinted, OneLineIsGenerated}, Reporting.{AreLeastFindings, TellsFindings}, Showing.{AreEdges, TellsLeast}}
 use Rattle.commands.proofs.{InOrder.{one_in_order}, OneTable.{one_table}, SameForms.{same_texts, same_counts, same_forms}}
 

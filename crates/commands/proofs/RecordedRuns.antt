@@ -6,8 +6,10 @@ use Rattle.osek_values.specs.declared.{event.Event.{Event}, limits.TheConstants.
 use Rattle.osek_standard.specs.declared.{app.App.{App}, point.Point.{Point}, state.State.{State}}
 use Rattle.osek_standard.specs.{Dispatch.{Stepped}, Kernel.{start, step, steps, run}, Points.{IsPoint, point_of}}
 use Rattle.image_model.specs.{declared.image.Image.{Image}, ImageTrace.{Run, run_of, and_then, after, image_steps, image_run, trap_text}}
-use Rattle.abstract_state.specs.{declared.table.PlainTable.{PlainTable}, Forms.{HasDictatedForms, KnowsAtMost}, Tables.{Sets, In, Inductive, sets_of}}
-use Rattle.abstract_state.proofs.{AllowedLaws.{well_point}, ImageLaws.{dictated_statuses, same_step}}
+use Rattle.abstract_state.specs.{declared.table.PlainTable.{PlainTable}, Tables.{Sets, In, Inductive, sets_of}}
+use Rattle.dictated_forms.specs.Forms.{HasDictatedForms, KnowsAtMost}
+use Rattle.abstract_state.proofs.AllowedLaws.{well_point}
+use Rattle.dictated_forms.proofs.ImageLaws.{dictated_statuses, same_step}
 use Rattle.trace_text.specs.RecordText.{RecordReading, read_record, record_text}
 use Rattle.trace_text.proofs.RecordLaws.{reads_back}
 use Rattle.flow_watch.specs.Records.{IsQuiet, record_of}

@@ -2,7 +2,8 @@
 use Rattle.std.proofs.Common.{sym, subst, inr}
 use Rattle.osek_standard.specs.declared.app.App.{App}
 use Rattle.image_model.specs.declared.image.Image.{Image}
-use Rattle.abstract_state.specs.{Forms.{Fits}, Tables.{Sets, Inductive, sets_of}}
+use Rattle.dictated_forms.specs.Forms.{Fits}
+use Rattle.abstract_state.specs.Tables.{Sets, Inductive, sets_of}
 use Rattle.abstract_state.proofs.ContainmentLaws.{one_least}
 use Rattle.flow_report.specs.{declared.finding.Finding.{Finding}, Findings.{Holds}}
 use Rattle.commands.specs.{Fitting.{IsFitted, IsLeastTable}}

@@ -6,8 +6,9 @@ use Rattle.osek_standard.specs.{declared.app.App.{App}, Apps.{is_site}}
 use Rattle.image_model.specs.declared.{image.Image.{Image}, site.{Form.{Form}, Site.{Site}}}
 use Rattle.image_model.specs.declared.image.Version.TheVariants as version
 use Rattle.image_model.specs.Sites.{IsSiteAt}
-use Rattle.abstract_state.specs.{Forms.{FormOf, HasDictatedForms}, Tables.{Sets}}
-use Rattle.abstract_state.proofs.FormLaws.{one_form}
+use Rattle.dictated_forms.specs.Forms.{FormOf, HasDictatedForms}
+use Rattle.abstract_state.specs.Tables.{Sets}
+use Rattle.dictated_forms.proofs.FormLaws.{one_form}
 use Rattle.flow_text.specs.{FormCounts.{is_never, is_stay, is_direct, is_general, is_site_with, site_counts}, Texts.{site_text, sites_text}, FlowLines.{site_line}}
 
 abbrev form_of : Option Site → Option Form

@@ -3,8 +3,8 @@ use Rattle.std.proofs.Common.{ℕ, ◌<◌, length, get_or, sym, subst}
 use Rattle.std.specs.Prelude.{All}
 use Rattle.std.proofs.lemmas.List.Elements.{Contains-get_or}
 use Rattle.osek_standard.specs.{declared.app.App.{App}, Points.{IsPoint}}
-use Rattle.abstract_state.specs.{Forms.{Edge}, Tables.{sets_of}}
-use Rattle.abstract_state.proofs.FormLaws.{edge_begins, edge_ends}
+use Rattle.abstract_state.specs.{Edges.{Edge}, Tables.{sets_of}}
+use Rattle.abstract_state.proofs.EdgeLaws.{edge_begins, edge_ends}
 use Rattle.abstract_state.specs.declared.edge.FlowEdge.{FlowEdge}
 use Rattle.commands.specs.{Showing.{IsDictated}, declared.showing.Dictated.{Dictated}}
 

@@ -4,7 +4,8 @@ use Rattle.osek_values.specs.declared.limits.TheConstants.{MAX_TABLE}
 use Rattle.osek_standard.specs.declared.app.App.{App}
 use Rattle.image_model.specs.declared.image.Image.{Image}
 use Rattle.image_codec.specs.Spelling.{spelling}
-use Rattle.abstract_state.specs.{declared.table.PlainTable.{PlainTable}, Forms.{HasDictatedForms, HasDictatedStatuses}, Tables.{sets_of}}
+use Rattle.abstract_state.specs.{declared.table.PlainTable.{PlainTable}, Tables.{sets_of}}
+use Rattle.dictated_forms.specs.Forms.{HasDictatedForms, HasDictatedStatuses}
 use Rattle.table_codec.specs.Spelling.{spelling as table_spelling}
 use Rattle.osek_io.specs.{Counts.{Rose}, Files.{with_file}, Stored.{StoresProperPrefix}}
 use Rattle.command_runs.specs.{Outside.{Told, Outside, SameFiles}, declared.stop.Stop.{Stop}}

@@ -4,7 +4,8 @@ use Rattle.osek_values.specs.declared.{event.Event.{Event}, numbers.ModeNo.{Mode
 use Rattle.osek_standard.specs.declared.app.App.{App}
 use Rattle.image_model.specs.{declared.image.{Image.{Image}, Version.TheVariants.{Two}}, Laws.{IsKernelsRun}}
 use Rattle.image_codec.specs.Spelling.{spelling}
-use Rattle.abstract_state.specs.{declared.table.PlainTable.{PlainTable}, Forms.{HasDictatedForms, HasDictatedStatuses}, Tables.{Sets, Least, sets_of}, Written.{IsWritten}}
+use Rattle.abstract_state.specs.{declared.table.PlainTable.{PlainTable}, Tables.{Sets, Least, sets_of}, Written.{IsWritten}}
+use Rattle.dictated_forms.specs.Forms.{HasDictatedForms, HasDictatedStatuses}
 use Rattle.command_runs.specs.Replaying.{SpellImage}
 
 -- the least table of an application, as the analysis writes it

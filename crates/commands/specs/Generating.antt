@@ -3,7 +3,8 @@ use Rattle.std.specs.Prelude.{◌≡◌, ℕ, List, Option, Some, None, Result, 
 use Rattle.osek_values.specs.declared.numbers.ModeNo.{ModeNo}
 use Rattle.osek_standard.specs.{declared.app.App.{App}, TraceText.{kernel_trace}}
 use Rattle.image_model.specs.declared.image.Image.{Image}
-use Rattle.abstract_state.specs.{declared.table.PlainTable.{PlainTable}, Forms.{HasDictatedForms}, Tables.{sets_of, value_count}}
+use Rattle.abstract_state.specs.{declared.table.PlainTable.{PlainTable}, Tables.{sets_of, value_count}}
+use Rattle.dictated_forms.specs.Forms.{HasDictatedForms}
 use Rattle.trace_text.specs.EventText.{read_text}
 use Rattle.osek_io.specs.Files.{Files}
 use Rattle.flow_text.specs.{declared.gen_line.AnalysisCounts.{AnalysisCounts}, GeneratedLine.{analysis_counts, text_size, gen_line}}

@@ -7,7 +7,7 @@ use Rattle.front_end.specs.Texts.{DeclaresSystem, GivesApp}
 use Rattle.image_model.specs.declared.image.Image.{Image}
 use Rattle.image_codec.specs.Spelling.{spelling}
 use Rattle.image_model.specs.{ImageTrace.{image_run, image_trace, has_trap}, Upgrades.{IsUpgraded}}
-use Rattle.image_codec.specs.Reading.{AreBytes}
+use Rattle.image_fields.specs.Reading.{AreBytes}
 use Rattle.trace_text.specs.{EventText.{read_text}, RecordText.{record_text}}
 use Rattle.osek_io.specs.Files.{Files}
 use Rattle.commands.specs.{Fitting.{IsKernelImage, IsFitted, IsLeastTable}, Due.{ImageDue, ImageRuns, WatchDue, IsDue}}

@@ -3,7 +3,7 @@ use Rattle.std.specs.Prelude.{◌≡◌, ◌↔◌, ℕ, List, Contains, Result,
 use Rattle.osek_standard.specs.declared.app.App.{App}
 use Rattle.abstract_state.specs.{declared.table.PlainTable.{PlainTable}, Tables.{sets_of}}
 use Rattle.flow_report.specs.{declared.finding.Finding.{Finding}, Findings.{Holds}, FindingOrder.{AreAscending}}
-use Rattle.flow_text.specs.Texts.{report_text}
+use Rattle.flow_report.specs.FindingLines.{report_text}
 use Rattle.command_runs.specs.{Outside.{Outside}, declared.stop.Stop.{Stop}}
 use Rattle.commands.specs.{Compiling.{OfApp, CompileStops}, Fitting.{IsLeastTable}, Printing.{PrintAnswers}}
 

@@ -1,7 +1,8 @@
 -- The answers of `show`, each with its cause and what it leaves.
 use Rattle.std.specs.Prelude.{◌≡◌, ◌↔◌, ℕ, List, Contains, Result, Err}
 use Rattle.osek_standard.specs.declared.{app.App.{App}, point.Point.{Point}}
-use Rattle.abstract_state.specs.{declared.{table.PlainTable.{PlainTable}, edge.FlowEdge.{FlowEdge}}, Forms.{HasDictatedForms, Edge}, Tables.{sets_of, value_count}}
+use Rattle.abstract_state.specs.{declared.{table.PlainTable.{PlainTable}, edge.FlowEdge.{FlowEdge}}, Edges.{Edge}, Tables.{sets_of, value_count}}
+use Rattle.dictated_forms.specs.Forms.{HasDictatedForms}
 use Rattle.abstract_state.specs.Edges.{flow_edge}
 use Rattle.global_cfg.specs.Edges.{AreAscending}
 use Rattle.flow_text.specs.Texts.{show_text}

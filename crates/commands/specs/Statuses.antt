@@ -3,7 +3,7 @@ use Rattle.std.specs.Prelude.{ℕ, List, [], ◌++◌, Option, Result, Ok, Err, 
 use Rattle.osek_values.specs.declared.refusal.TextFile.{TextFile}
 use Rattle.osek_values.specs.declared.refusal.TextFile.TheVariants as file
 use Rattle.osek_values.specs.Rules.{rule_name}
-use Rattle.image_codec.specs.Rules.{image_rule_name}
+use Rattle.image_fields.specs.Rules.{image_rule_name}
 use Rattle.table_codec.specs.Rules.{table_rule_name}
 use Rattle.trace_text.specs.{EventFaults.{event_fault_name}, PointFaults.{point_fault_name}}
 use Rattle.command_runs.specs.declared.stop.{Input.{Input}, Stop.{Stop}}

@@ -1,6 +1,7 @@
 //! The image of an application, fitted to it by its least table of possible states.
 ghost use Rattle.std.specs.Prelude.{◌≡◌, ◌<◌, IfOk};
-ghost use Rattle.abstract_state.specs.{Forms.{HasDictatedForms, HasDictatedStatuses}, Tables.{sets_of}};
+ghost use Rattle.dictated_forms.specs.Forms.{HasDictatedForms, HasDictatedStatuses};
+ghost use Rattle.abstract_state.specs.Tables.{sets_of};
 ghost use Rattle.commands.specs.Fitting.{IsLeastTable, IsFitted};
 
 use crate::ranges::read_numbers;

@@ -2,7 +2,7 @@
 ghost use Rattle.std.specs.Prelude.{◌≡◌, ◌≤◌, All, length, IfOk, OnOk, OnErr};
 ghost use Rattle.osek_io.specs.{Reads.{OnlyReads}, Sunk.{sunk}};
 ghost use Rattle.flow_report.specs.Findings.{IsOf};
-ghost use Rattle.flow_text.specs.{FindingLines.{finding_line}, Texts.{report_text}};
+ghost use Rattle.flow_report.specs.FindingLines.{finding_line, report_text};
 ghost use Rattle.command_runs.specs.{Outside.{outside}, Playing.{given, Puts, PutsPrefix}};
 ghost use Rattle.commands.specs.{Printing.{PrintsWhole}, Reporting.{AreLeastFindings, ReportAnswers}};
 
@@ -10,8 +10,7 @@ use crate::compiling::compile;
 use crate::fitting::least_table;
 use crate::printing::put_line;
 use command_runs::{Stop, line_room, prefix};
-use flow_report::Finding;
-use flow_text::write_finding_line;
+use flow_report::{Finding, write_finding_line};
 use osek_io::{PutBuffer, PutError, Shelf, Sink};
 use osek_standard::App;
 use osek_values::Memory;

@@ -6,7 +6,8 @@ ghost use Rattle.osek_standard.specs.Well.{Well};
 ghost use Rattle.event_alarm.specs.Answers.{status_of, number_of};
 
 use crate::events::set_event;
-use osek_standard::{Action, AlarmState, App, State, activate};
+use activation::activate;
+use osek_standard::{Action, AlarmState, App, State};
 use osek_values::{AlarmNo, Ask, CounterNo, Status};
 
 /// Whether the alarm's counter allows a cycle: 0, or from MINCYCLE to MAXALLOWEDVALUE.

@@ -70,7 +70,7 @@ fn first_wrong_join(alloc: Global) -> Option<usize> {
 
 #[test]
 fn a_join_counts_what_is_new(rt: HostRuntime) {
-    assert_eq!(rt; first_wrong_join(rt.alloc()), None);
+    assert!(rt; first_wrong_join(rt.alloc()) == None);
 }
 
 /// Values that differ in a block, a resource, or what the task does there.
@@ -113,7 +113,7 @@ fn are_in_order(alloc: Global) -> Result<bool, Memory> {
 
 #[test]
 fn a_set_is_in_order(rt: HostRuntime) {
-    assert_eq!(rt; are_in_order(rt.alloc()), Ok(true));
+    assert!(rt; are_in_order(rt.alloc()) == Ok(true));
 }
 
 /// Whether a value is new once where it is put into a set twice.
@@ -160,10 +160,10 @@ fn entries_joined(alloc: Global, block: u16, is_set: bool) -> Result<u64, Memory
 
 #[test]
 fn entries_join_set_by_set(rt: HostRuntime) {
-    assert_eq!(rt; entries_joined(rt.alloc(), 0, false), Ok(0));
-    assert_eq!(rt; entries_joined(rt.alloc(), 1, false), Ok(1));
-    assert_eq!(rt; entries_joined(rt.alloc(), 0, true), Ok(1));
-    assert_eq!(rt; entries_joined(rt.alloc(), 1, true), Ok(2));
+    assert!(rt; entries_joined(rt.alloc(), 0, false) == Ok(0));
+    assert!(rt; entries_joined(rt.alloc(), 1, false) == Ok(1));
+    assert!(rt; entries_joined(rt.alloc(), 0, true) == Ok(1));
+    assert!(rt; entries_joined(rt.alloc(), 1, true) == Ok(2));
 }
 
 /// A join through the bound.
@@ -188,5 +188,5 @@ fn nothing_joined(alloc: Global) -> Result<u64, Memory> {
 
 #[test]
 fn entries_of_nothing_join(rt: HostRuntime) {
-    assert_eq!(rt; nothing_joined(rt.alloc()), Ok(0));
+    assert!(rt; nothing_joined(rt.alloc()) == Ok(0));
 }

@@ -1,13 +1,12 @@
 -- What is said of an image and a table, by what is found of the starts, of the steps and of the sites.
-use Rattle.std.proofs.Common.{◌≡◌, ◌<◌, List, length, refl, sym, ap, subst, ◌∙◌, arith}
+use Rattle.std.proofs.Common.{◌≡◌, ◌<◌, List, length, refl, sym, subst, ◌∙◌}
 use Rattle.std.specs.declared.option.Option.{Option}
-use Rattle.std.proofs.lemmas.List.{length-map}
-use Rattle.osek_values.specs.{Numbers.{mode_no}, declared.{event.Event.{Event}, numbers.ModeNo.{ModeNo}}}
+use Rattle.osek_values.specs.{declared.{event.Event.{Event}, numbers.ModeNo.{ModeNo}}}
 use Rattle.osek_standard.specs.{declared.point.Point.{Point}, Kernel.{start}, Points.{point_of}}
 use Rattle.image_model.specs.{declared.image.Image.{Image}, Laws.{IsKernelsRun}}
 use Rattle.abstract_state.specs.{declared.table.{PlainTable.{PlainTable}}, Tables.{Inductive, sets_of}, Written.{IsWritten}}
-use Rattle.abstract_state.proofs.{EqualityLaws.{written_entry}, ImageLaws.{fitting_run}}
-use Rattle.numbered_sets.specs.{declared.table.NumberedRow.{NumberedRow}, Pools.{Values, IsLonger}, PlainTables.{plain_row, plain_table, AreRowsFor}}
+use Rattle.dictated_forms.proofs.ImageLaws.{fitting_run}
+use Rattle.numbered_sets.specs.{declared.table.NumberedRow.{NumberedRow}, Pools.{Values, IsLonger}, PlainTables.{plain_table, AreRowsFor}}
 use Rattle.flow_check.specs.{declared.{found.Findings.{Findings}, verdict.Verdict.{Verdict}}, Rows.{AreRowsFrom}, Outcomes.{AreFound}, Flows.{IsFlow}}
 use Rattle.flow_check.specs.declared.flow.Flow.TheVariants as flow
 use Rattle.flow_check.specs.declared.verdict.Verdict.TheVariants as verdict
@@ -20,17 +19,6 @@ module _ (i : Image) (table : PlainTable) (written : IsWritten i.app table) (poo
 
   pub rows_from : AreRowsFrom i.app pool rows
   rows_from = record { known = are.known; written = subst (IsWritten i.app) (sym table_is) written }
-
-  -- no start is in a table without a row
-  pub none_in : length rows ≡ 0 → IsVerdict i (sets_of table) (verdict.N1 (mode_no 0))
-  none_in none = record {
-    mode = i.app.valid.some_mode;
-    before = λ m lt. absurd (omega (arith, lt));
-    out = λ h.
-        (let r = (written_entry table (point_of (start i.app (mode_no 0)).state)).0 h.entry in
-        let long = ap length are.same in
-        absurd (omega (arith, r.among.1, long, length-map rows (plain_row pool), none)));
-  }
 
   pub first_out : (m : ModeNo) → IsFirstStartOut i.app (sets_of (plain_table pool rows)) m → IsVerdict i (sets_of table) (verdict.N1 m)
   first_out m h = subst (λ (t : PlainTable). IsFirstStartOut i.app (sets_of t) m) table_is h

@@ -1,19 +1,19 @@
 -- What is read of the instructions of the states of a row is told by the exits of its point.
-use Rattle.std.proofs.Common.{◌≡◌, ◌⊎◌, ℕ, ◌+◌, ◌<◌, Bool, false, List, [], ◌∷◌, ◌++◌, length, get_or, map, take, IsTrue, Some, None, refl, sym, ap, subst, ◌∙◌, inl, inr, arith}
+use Rattle.std.proofs.Common.{◌≡◌, ◌⊎◌, ◌+◌, ◌<◌, Bool, List, [], ◌∷◌, ◌++◌, map, Some, None, refl, sym, ap, subst, ◌∙◌, inl, inr, arith}
 use Rattle.std.specs.{declared.option.Option.{Option}, Prelude.{Contains}}
-use Rattle.std.proofs.lemmas.{Bool.{cases_lt}, Grind.{flat_map-append}, List.{append-nil, take_more, Elements.{Contains-append_left, Contains-append_right, Contains-append_cases}}}
+use Rattle.std.proofs.lemmas.List.Elements.{Contains-append_left, Contains-append_right, Contains-append_cases}
 use Rattle.osek_values.specs.declared.status.Status.{Status}
 use Rattle.osek_standard.specs.{declared.{app.App.{App}, state.State.{State}}, Effects.{effect}, Dispatch.{outcome}, Outcomes.{Did, shows}}
 use Rattle.osek_standard.proofs.Members.{among_contained, contained_among, map_among}
-use Rattle.abstract_state.specs.{declared.{value.PartValue.{PartValue, TheVariants.{OfAlarm}}, table.{PlainEntry.{PlainEntry}, TableRow.{TableRow}}}, Components.{component_count}}
-use Rattle.abstract_state.specs.Tables.{set_at, is_member}
+use Rattle.abstract_state.specs.declared.table.TableRow.{TableRow}
 use Rattle.abstract_state.proofs.MarkLaws.{shown_instruction}
 use Rattle.flow_model.specs.{declared.case.Decision.{Decision}, Rules.{mark_by}, Scheduling.{outcome_of_decision}}
-use Rattle.flow_exits.specs.{declared.exit.Exit.{Exit}, Exits.{CoverInstructions, IsStepTo, IsFilled, IsExact, AreExact}}
+use Rattle.flow_exits.specs.{declared.exit.Exit.{Exit}, Exits.{CoverInstructions, AreExact}}
+use Rattle.flow_exits.proofs.ExactExits.{some_step}
 use Rattle.numbered_sets.specs.Pools.{Values}
 use Rattle.flow_rules.specs.declared.group.{NumberEnd.{NumberEnd}, Ends.{Ends}, ExitGroup.{ExitGroup}}
 use Rattle.flow_rules.specs.declared.group.Ends.TheVariants as ends
-use Rattle.flow_rules.specs.Groups.{with_end, exit_at, exits_by, exits_of, all_exits}
+use Rattle.flow_rules.specs.Groups.{with_end, exit_at, exits_by}
 use Rattle.flow_check.specs.{declared.found.Findings.{Findings}, Found.{Seen, Nothing, Alone, IsSeen, AreJoined, outcome_seen, status_seen, AreJoinedFindings, IsTold}}
 use Rattle.flow_check.specs.Outcomes.{end_count, status_noted, Arises, IsOfExit, IsOfExits, AreOfRow, AreOfExits}
 use Rattle.flow_check.proofs.Joining.{same_decision, same_status, status_once, joined_nothing, same_seen, joined_seen, seen_already}
@@ -132,30 +132,13 @@ none_in_group pool g (ends.At (p ∷ ps)) none x m = absurd (omega (arith, none)
 none_in_group pool g (ends.With []) none x m = contained_among [] x m
 none_in_group pool g (ends.With (n ∷ ns)) none x m = absurd (omega (arith, none))
 
--- the exits of the groups so far, in a loop over their list
-pub groups_more : (pool : List Values) (items : List ExitGroup) (i : ℕ) (x : ExitGroup) → i < length items → x ≡ get_or items i x → all_exits pool (take i items) ++ exits_of pool x ≡ all_exits pool (take (i + 1) items)
-groups_more pool items i x lt e =
-    ap (λ (xs : List Exit). all_exits pool (take i items) ++ xs) (sym (append-nil (exits_of pool x))) ∙ sym (flat_map-append (exits_of pool) (take i items) (x ∷ []))
-    ∙ ap (all_exits pool) (ap (λ (y : ExitGroup). take i items ++ y ∷ []) e ∙ sym (take_more items i x lt))
-
--- a value of each set
-pub some_value : (app : App) (entry : PlainEntry) → IsFilled app entry → (c : ℕ) → (v : PartValue) × (c < component_count app → IsTrue (is_member (set_at entry c) v))
-some_value app entry filled c = elim (cases_lt c (component_count app)) [
-  | inl below ↦ (let some = filled c below in (some.value, λ lt. some.member))
-  | inr above ↦ (OfAlarm false, λ lt. absurd (omega (arith, lt, above)))
-]
-
 module _ (app : App) (row : TableRow) (exits : List Exit) where
-  -- a step by an exit
-  some_step : (x : Exit) (exact : IsExact app row.point row.entry x) → IsStepTo app row.point row.entry x (λ c. (some_value app x.entry exact.filled c).0)
-  some_step x exact = exact.shown (λ c. (some_value app x.entry exact.filled c).0) (λ c lt. (some_value app x.entry exact.filled c).1 lt)
-
   -- what an exit tells is read of the instructions that are its own
   module _ {X : Type 0} (read : State → Bool → X) (told : Exit → Decision → X)
       (right : (x : Exit) (s : State) (choice : Bool) (d : Decision) → outcome app s choice ≡ outcome_of_decision d → (effect app s choice).notes.status ≡ x.status → read s choice ≡ told x d) where
     shown_by_exits : AreExact app row.point row.entry exits → (y : X) → IsOfExits told exits y → Arises app read row y
     shown_by_exits exact y h =
-        let step = some_step h.exit (exact h.exit h.among) in
+        let step = some_step app row.point row.entry h.exit (exact h.exit h.among) in
         let d = h.is.decision in
         let did : shows app step.from step.event ≡ Did (outcome_of_decision d) h.exit.status = step.shows ∙ ap (λ (z : Option Decision). mark_by z h.exit.status) h.is.decides in
         let i = shown_instruction app step.from step.event (outcome_of_decision d) h.exit.status did in

@@ -8,8 +8,8 @@ use Rattle.image_model.specs.declared.{image.Image.{Image}, site.{Form.{Form}, K
 use Rattle.image_model.specs.declared.site.Form.TheVariants as form
 use Rattle.image_model.specs.Sites.{IsSiteAt}
 use Rattle.abstract_state.specs.{declared.table.PlainTable.{PlainTable}, Tables.{Inductive, sets_of}, Written.{IsWritten}}
-use Rattle.abstract_state.specs.Forms.{FormOf, KnownOf, IsUnreached, FormFits, KnownFits}
-use Rattle.abstract_state.proofs.FormLaws.{one_form, one_known}
+use Rattle.dictated_forms.specs.Forms.{FormOf, KnownOf, IsUnreached, FormFits, KnownFits}
+use Rattle.dictated_forms.proofs.FormLaws.{one_form, one_known}
 use Rattle.flow_model.specs.declared.case.Decision.TheVariants as decision
 use Rattle.flow_check.specs.declared.found.{Found.{Found}, Findings.{Findings}}
 use Rattle.flow_check.specs.declared.found.Found.TheVariants as found

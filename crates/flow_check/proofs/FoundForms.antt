@@ -7,7 +7,8 @@ use Rattle.osek_standard.specs.declared.state.Processor.TheVariants as processor
 use Rattle.osek_standard.specs.{States.{here}, Dispatch.{Outcome, outcome}, Points.{StandsAt, point_at, point_of}, Well.{IsActive}}
 use Rattle.image_model.specs.declared.site.Known.{Known}
 use Rattle.image_model.specs.declared.site.Known.TheVariants as known
-use Rattle.abstract_state.specs.{declared.table.PlainTable.{PlainTable}, Tables.{Sets, In, sets_of}, Written.{IsWritten}, Forms.{Occurs, FormOf, Noted, KnownOf}}
+use Rattle.abstract_state.specs.{declared.table.PlainTable.{PlainTable}, Tables.{Sets, In, sets_of}, Written.{IsWritten}}
+use Rattle.dictated_forms.specs.Forms.{Occurs, FormOf, Noted, KnownOf}
 use Rattle.abstract_state.proofs.EqualityLaws.{written_entry}
 use Rattle.flow_model.specs.declared.case.Decision.TheVariants as decision
 use Rattle.flow_model.specs.Scheduling.{outcome_of_decision}

@@ -4,7 +4,8 @@ use Rattle.osek_values.specs.declared.{event.Event.{Event}, numbers.ModeNo.{Mode
 use Rattle.osek_standard.specs.declared.{app.App.{App}, state.State.{State}, point.Point.{Point}}
 use Rattle.osek_standard.specs.{Kernel.{start, step}, Points.{point_of, point_number}}
 use Rattle.image_model.specs.{declared.{site.{Form.{Form}, Known.{Known}}, image.Image.{Image}}, ImageStep.{form_at, known_at}}
-use Rattle.abstract_state.specs.{Tables.{Sets, In, Inductive}, Forms.{FormFits, KnownFits, Fits}}
+use Rattle.abstract_state.specs.Tables.{Sets, In, Inductive}
+use Rattle.dictated_forms.specs.Forms.{FormFits, KnownFits, Fits}
 use Rattle.flow_check.specs.declared.verdict.Verdict.{Verdict}
 use Rattle.flow_check.specs.declared.verdict.Verdict.TheVariants as verdict
 

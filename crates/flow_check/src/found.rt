@@ -7,7 +7,7 @@ use image_model::{Form, Known};
 use osek_values::Status;
 
 /// What is found so far of the outcomes at a block: more than one is as good as all.
-#[derive(Clone, Copy, PartialEq, Eq, Debug)]
+#[derive(Clone, Copy, PartialEq, Eq)]
 pub enum Found {
     None,
     One(Decision),
@@ -16,7 +16,7 @@ pub enum Found {
 }
 
 /// What is found so far of the instructions at a block.
-#[derive(Clone, Copy, PartialEq, Eq, Debug)]
+#[derive(Clone, Copy)]
 pub struct Findings {
     pub outcome: Found,
     /// What is known of the statuses that are noted, once there is one.

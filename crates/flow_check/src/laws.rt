@@ -1,8 +1,8 @@
 //! Laws over the verdicts, each on a function that does nothing.
-ghost use Rattle.std.specs.Prelude.{◌≡◌, ◌<◌, ◌↔◌, List, length};
-ghost use Rattle.osek_values.specs.declared.{event.Event.{Event}, numbers.ModeNo.{ModeNo}};
-ghost use Rattle.image_model.specs.{declared.image.Image.{Image}, Laws.{IsKernelsRun}};
-ghost use Rattle.abstract_state.specs.{Tables.{Sets, Inductive}, Forms.{Fits, HasDictatedForms, HasDictatedStatuses}};
+ghost use Rattle.std.specs.Prelude.{◌≡◌};
+ghost use Rattle.image_model.specs.declared.image.Image.{Image};
+ghost use Rattle.abstract_state.specs.Tables.{Sets, Inductive};
+ghost use Rattle.dictated_forms.specs.Forms.{HasDictatedForms, HasDictatedStatuses};
 ghost use Rattle.flow_check.specs.{declared.verdict.Verdict.{Verdict}, Verdicts.{IsVerdict}};
 ghost use Rattle.flow_check.specs.declared.verdict.Verdict.TheVariants as verdict;
 

@@ -4,7 +4,7 @@ use abstract_state::Point;
 use osek_values::{BlockNo, ModeNo};
 
 /// What `check` says: yes, or the least no, by its number and then by its place.
-#[derive(Clone, Copy, PartialEq, Eq, Debug)]
+#[derive(Clone, Copy, PartialEq, Eq)]
 pub enum Verdict {
     /// The table is inductive, and the image fits it.
     Yes,

@@ -17,11 +17,10 @@ use Rattle.osek_standard.specs.{Effects.{effect, noted, asked_over, returned_by,
 use Rattle.osek_standard.specs.Effects.{given_back as gives_back}
 use Rattle.osek_standard.proofs.NestLaws.{IsNext, entered_known, is_next, next_is, none_next as all_out_where_none, source_orders}
 use Rattle.osek_standard.proofs.Members.{Among, among_map, among_passing, map_among, passing_among}
-use Rattle.abstract_state.specs.declared.value.{Component.{Component}, ComponentNo.{ComponentNo}, PartValue.TheVariants.{OfSource}}
-use Rattle.abstract_state.specs.declared.value.Component.TheVariants as component
+use Rattle.abstract_state.specs.declared.value.{ComponentNo.{ComponentNo}, PartValue.TheVariants.{OfSource}}
 use Rattle.abstract_state.specs.declared.value.SourceVal.TheVariants as source_val
-use Rattle.abstract_state.specs.Components.{abstract_of, component_at, component_count, part_of}
-use Rattle.abstract_state.proofs.OrderLaws.{part_itself}
+use Rattle.abstract_state.specs.Components.{abstract_of, component_at, component_count}
+use Rattle.abstract_state.proofs.{ComponentLaws.{processor_part}, OrderLaws.{part_itself}}
 use Rattle.flow_model.specs.declared.{test.Condition.{Condition}, case.EffectCase.{EffectCase}, runner.Runner.{Runner}}
 use Rattle.flow_model.specs.declared.case.Asked.TheVariants as asked
 use Rattle.flow_model.specs.declared.change.Update.TheVariants as update
@@ -32,13 +31,6 @@ use Rattle.flow_model.proofs.{ChangeLaws.{each_passes, passes_each}, Instruction
 use Rattle.flow_effects.specs.{Conditions.{of_source}, Returns.{are_out, before, ended, given_back, last_return, may_be_in, nested, nested_return, others, return_cases}}
 use Rattle.flow_effects.specs.Outs.{is_known_out, AreOutBy, AreCasesWith}
 use Rattle.flow_effects.proofs.{Listed.{IsCase, IsEffect, IsTaken, AreListed, are_cases_with, cases_with, more_listed}, MoveCases.{idle_cases}}
-
--- who has the processor is no component
-processor_part : (s : State) (p : Processor) (c : Component) → part_of (with_processor s p) c ≡ part_of s c
-processor_part s p (component.Task t) = refl
-processor_part s p (component.Event t j) = refl
-processor_part s p (component.Alarm a) = refl
-processor_part s p (component.Source k) = refl
 
 asks_over : (app : App) (s : State) (t : TaskNo) (x : Schedule) → Asks (asked_under t x) (noted app (unnoted (with_processor s (processor.Running t)) (asked_over x)))
 asks_over app s t Full = (refl, refl)

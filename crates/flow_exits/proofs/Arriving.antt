@@ -8,7 +8,7 @@ use Rattle.osek_standard.specs.declared.state.Source.TheVariants as source
 use Rattle.osek_standard.specs.declared.state.Processor.TheVariants as processor
 use Rattle.osek_standard.specs.declared.point.Point.{Point}
 use Rattle.osek_standard.specs.declared.point.Point.TheVariants as point
-use Rattle.osek_standard.specs.{Apps.{routine_start, source_count, source_priority, the_block}, States.{place_by, place_of_source, task_of, with_latch, with_processor, with_source}}
+use Rattle.osek_standard.specs.{Apps.{routine_start, source_count, source_priority, the_block}, States.{place_by, place_of_source, task_of, with_latch, with_source}}
 use Rattle.osek_standard.specs.{Levels.{level}, Points.{IsPoint, point_at, point_of}}
 use Rattle.osek_standard.specs.{Dispatch.{Stepped, instruction, silent}, Arrivals.{arrival, entered, begun, takes_none, takes_none_by}, Kernel.{step, run_by, entered_or}}
 use Rattle.osek_standard.specs.{Outcomes.{Arrived, Silent, did, arrived_or, shown_by}, Well.{Well, IsOwn, IsOfRoutine, IsProcessor}}
@@ -18,7 +18,7 @@ use Rattle.abstract_state.specs.declared.value.{Component.{Component}, PartValue
 use Rattle.abstract_state.specs.declared.value.Component.TheVariants as component
 use Rattle.abstract_state.specs.declared.value.SourceVal.TheVariants as source_val
 use Rattle.abstract_state.specs.{Components.{abstract_of, component_at, component_count, component_number, part_of, routine_val}, Concrete.{AreAllowed}, Regular.{IsRegular}}
-use Rattle.abstract_state.proofs.{Concretes.{some_latched}, RoutineOwners.{routine_once}}
+use Rattle.abstract_state.proofs.{ComponentLaws.{processor_part}, Concretes.{some_latched}, RoutineOwners.{routine_once}}
 use Rattle.flow_model.specs.declared.rule.Rule.{Rule}
 use Rattle.flow_model.specs.declared.change.Update.TheVariants as update
 use Rattle.flow_model.specs.{Rules.{Matches, IsMatched, Shown}, Changes.{source_change}, Tests.{PassesAll, value_after}}
@@ -29,18 +29,12 @@ use Rattle.flow_exits.proofs.NestConditions.{level_passes, out_unless, passes_le
 abbrev itself : Stepped → Stepped
 itself n = n
 
--- latches and the processor are no components
+-- latches are no components
 latch_part : (s : State) (k : ℕ) (b : Bool) (c : Component) → part_of (with_latch s k b) c ≡ part_of s c
 latch_part s k b (component.Task t) = refl
 latch_part s k b (component.Event t j) = refl
 latch_part s k b (component.Alarm a) = refl
 latch_part s k b (component.Source l) = refl
-
-processor_part : (s : State) (p : Processor) (c : Component) → part_of (with_processor s p) c ≡ part_of s c
-processor_part s p (component.Task t) = refl
-processor_part s p (component.Event t j) = refl
-processor_part s p (component.Alarm a) = refl
-processor_part s p (component.Source l) = refl
 
 module _ (app : App) (s : State) (k : SourceNo) (known : k.0 < source_count app) (w : Well app s) where
   -- the source is in at its first block, and nothing else changes

@@ -1,15 +1,11 @@
 -- The ceilings of what a Live task has: its INTERNAL resource where it is inside, and then its stack.
-use Rattle.std.proofs.Common.{◌≡◌, ℕ, List, [], refl, ap, ◌∙◌, Some, None}
+use Rattle.std.proofs.Common.{◌≡◌, ℕ, List, [], ap, ◌∙◌, None}
 use Rattle.std.specs.{Prelude.{if◌then◌else◌}, List.{cons_option}, declared.option.Option.{Option}}
 use Rattle.osek_values.specs.declared.numbers.ResNo.{ResNo}
 use Rattle.osek_standard.specs.{declared.app.App.{App}, Internal.{internal_of}, Priority.{highest}}
+use Rattle.osek_standard.proofs.CeilingLaws.{highest_of_both}
 use Rattle.abstract_state.specs.declared.value.{LiveVal.{LiveVal}, Val.TheVariants.{Live}}
 use Rattle.flow_model.specs.Values.{occupied_by}
-
-highest_of_both : (app : App) (base : ℕ) (o : Option ResNo) (h : List ResNo) → highest app (highest app base (cons_option o [])) h ≡ highest app base (cons_option o h)
-unfolding highest
-highest_of_both app base None h = refl
-highest_of_both app base (Some r) h = refl
 
 module _ (app : App) (t : ℕ) (x : LiveVal) (h : List ResNo) (same : h ≡ x.held) where
   abbrev internal : Option ResNo

@@ -9,5 +9,6 @@ pub mod NestConditions
 pub mod Arriving
 pub mod Steps
 pub mod Covering
+pub mod ExactExits
 pub mod AfterEffect
 mod Ceilings

@@ -7,7 +7,7 @@ ghost use Rattle.flow_exits.specs.Claims.{limit_beside as limit_beside_of};
 use osek_values::TaskNo;
 
 /// Who is to have the processor.
-#[derive(Clone, Copy, PartialEq, Eq, Debug)]
+#[derive(Clone, Copy)]
 pub enum Claim {
     /// No task, since none is Live.
     Nobody,

@@ -12,7 +12,7 @@ use osek_standard::App;
 use osek_values::{BlockNo, ResNo, TaskNo};
 
 /// What the scheduler reads of a Live task: its current priority, and the block at which it stands.
-#[derive(Clone, Copy, PartialEq, Eq, Debug)]
+#[derive(Clone, Copy)]
 pub struct Candidate {
     pub priority: u32,
     pub block: BlockNo,

@@ -28,9 +28,6 @@ of_stack f (OfSource v) = f (held_by_routine v)
 abbrev pub is_none_of : ℕ → List ResNo → Bool
 is_none_of m held = not (list_any (λ (r : ResNo). has_bit m r.0) held)
 
-abbrev pub holds_none_of : ℕ → Val → Bool
-holds_none_of m v = is_none_of m (held_of v)
-
 abbrev pub holds_nothing : Val → Bool
 holds_nothing v = length (held_of v) == 0
 

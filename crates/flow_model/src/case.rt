@@ -7,7 +7,7 @@ use abstract_state::Point;
 use osek_values::{Seq, Status, TaskNo};
 
 /// What an effect asks of the scheduler.
-#[derive(Clone, Copy, PartialEq, Eq, Debug)]
+#[derive(Clone, Copy)]
 pub enum Asked {
     /// Nothing.
     No,
@@ -20,7 +20,7 @@ pub enum Asked {
 }
 
 /// Where the processor stands after an effect, if the scheduler leaves it where it is.
-#[derive(Clone, Copy, PartialEq, Eq, Debug)]
+#[derive(Clone, Copy)]
 pub enum Stay {
     /// At this point.
     At(Point),
@@ -29,7 +29,7 @@ pub enum Stay {
 }
 
 /// What an effect leaves to the scheduler: what it asks, who was put last, and where the processor stands if it stays.
-#[derive(Clone, Copy, PartialEq, Eq, Debug)]
+#[derive(Clone, Copy)]
 pub struct Leaving {
     pub asked: Asked,
     /// The task that became Live and goes last in the line, so that it gives way to each other one of its priority.
@@ -74,7 +74,7 @@ pub struct EffectCase {
 }
 
 /// What the scheduler does: who had the processor keeps it, or it goes to a task or to none.
-#[derive(Clone, Copy, PartialEq, Eq, Debug)]
+#[derive(Clone, Copy, PartialEq, Eq)]
 pub enum Decision {
     Keep,
     To(Option<TaskNo>),

@@ -9,7 +9,7 @@ use osek_values::{BlockNo, SourceNo, TaskNo};
 
 /// Who executes at a point: a task, or a source's routine, with the number of its component, over the task that is
 /// interrupted or over none.
-#[derive(Clone, Copy, PartialEq, Eq, Debug)]
+#[derive(Clone, Copy)]
 pub enum Runner {
     Task(TaskNo),
     Routine {

@@ -101,9 +101,6 @@ module _ (app : App) (table : Sets) (b : BlockNo) (r : ResNo) where
 -- ---- findings of a block
 
 module _ (app : App) (table : Sets) (b : BlockNo) where
-  pub no_free : ((r : ResNo) → Takes app b r → ⊥) → Holds app table (finding.Free b) → ⊥
-  no_free none h = none h.0.1 h.0.2
-
   pub unreached_answer : Decides false (IsReachedBlock app table b) → Decides false (Holds app table (finding.Free b))
   unreached_answer there = (λ e. absurd (cc), λ h. (let wrong : false ≡ true = there.1 h.1.0 in absurd (cc)))
 

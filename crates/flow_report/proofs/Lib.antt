@@ -12,3 +12,4 @@ mod NotedHooks
 mod NotedRows
 mod TableRows
 mod RunLaws
+pub mod FindingsApart

@@ -6,7 +6,8 @@ use Rattle.osek_standard.specs.declared.{app.App.{App}, point.Point.{Point}}
 use Rattle.osek_standard.specs.{TraceText.{has_hook}, Effects.{wanted}, Kernel.{step}, Outcomes.{Mark, Silent, Arrived, Did, shows}}
 use Rattle.abstract_state.specs.{declared.table.{TableRow.{TableRow}, PlainTable.{PlainTable}}, Tables.{Sets, sets_of}, Written.{IsWritten}}
 use Rattle.flow_exits.specs.{declared.exit.Exit.{Exit}, Exits.{CoverSteps, AreExact}}
-use Rattle.flow_check.proofs.{ExitOutcomes.{some_value}, TableRows.{row_in}}
+use Rattle.flow_exits.proofs.ExactExits.{some_value}
+use Rattle.flow_check.proofs.TableRows.{row_in}
 use Rattle.flow_report.specs.{declared.finding.Finding.{Finding}, Findings.{IsHook, NoStepIs, Holds}, FindingOrder.{rank, hook_place}}
 use Rattle.flow_report.specs.Noting.{due_hooks, exit_hooks, NotesByExit, NotesAtStart, NotesInRow, NotesInRows, NotesInTable, AreHooks}
 use Rattle.flow_report.specs.declared.finding.Finding.TheVariants as finding

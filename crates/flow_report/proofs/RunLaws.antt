@@ -5,8 +5,9 @@ use Rattle.std.proofs.lemmas.List.Elements.{All-from_recursion}
 use Rattle.osek_values.specs.declared.{event.Event.{Event}, numbers.ModeNo.{ModeNo}}
 use Rattle.osek_standard.specs.{declared.{app.App.{App}, state.State.{State}}, Dispatch.{Stepped}, Kernel.{start, step, steps, run}}
 use Rattle.image_model.specs.{declared.image.Image.{Image}, ImageTrace.{after, image_steps, image_run}}
-use Rattle.abstract_state.specs.{Tables.{Sets, In, Inductive}, Forms.{Fits}}
-use Rattle.abstract_state.proofs.ImageLaws.{fitting_step}
+use Rattle.abstract_state.specs.Tables.{Sets, In, Inductive}
+use Rattle.dictated_forms.specs.Forms.{Fits}
+use Rattle.dictated_forms.proofs.ImageLaws.{fitting_step}
 use Rattle.flow_report.specs.{declared.finding.Finding.{Finding}, Findings.{Denies, HoldsOf}}
 use Rattle.flow_report.specs.declared.finding.Finding.TheVariants as finding
 

@@ -3,3 +3,4 @@ pub mod FindingOrder
 pub mod Progress
 pub mod Reached
 pub mod Noting
+pub mod FindingLines

@@ -2,7 +2,7 @@
 use osek_values::{AlarmNo, BlockNo, HookSet, Mask, TaskNo};
 
 /// What can't happen.
-#[derive(Clone, Copy, PartialEq, Eq, Debug)]
+#[derive(Clone, Copy)]
 pub enum Finding {
     /// The task is never started or activated.
     Suspended(TaskNo),

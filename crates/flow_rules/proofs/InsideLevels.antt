@@ -12,7 +12,7 @@ use Rattle.flow_model.specs.declared.change.Update.TheVariants as update
 use Rattle.flow_model.specs.Tests.{updated}
 use Rattle.flow_model.proofs.SettledValues.{inside_already}
 use Rattle.numbered_sets.specs.Pools.{Values, no_values, value_seen, with_value, seen_at, values_at, domain_at, AreNumbered, AreValues, IsNumberOf, IsExtended, IsLonger}
-use Rattle.numbered_sets.proofs.{MadeLaws.{number_stays, number_was}, NumberingLaws.{longer_itself, longer_onward}, PoolLaws.{numbered_with}, ViewLaws.{extended_with, longer_with}}
+use Rattle.numbered_sets.proofs.{MadeLaws.{number_stays, number_was, one_value}, NumberingLaws.{longer_itself, longer_onward}, PoolLaws.{numbered_with}, ViewLaws.{extended_with, longer_with}}
 use Rattle.abstract_state.specs.declared.value.Domain.TheVariants as domain
 use Rattle.flow_rules.specs.{declared.insides.Insides.{Insides}, Levels.{AreInside, AreNaming, AreInsides, AreNoInsides, inside_tasks}}
 
@@ -64,9 +64,6 @@ none_brought before t x values inside = record {
   inside = inside;
   rest = λ n v past is. absurd (omega (arith, past, is.known));
 }
-
-one_value : (vs : List PartValue) (v w : PartValue) (n : ℕ) → IsNumberOf vs v n → IsNumberOf vs w n → v ≡ w
-one_value vs v w n is other = sym (is.is v) ∙ other.is v
 
 module _ (before pool after : List Values) (t came : ℕ) (x y : Insides) (v : PartValue) (m : ℕ) (h : AreBroughtIn before t came pool x) (lt : t < length pool) (is : IsNumberOf (values_at pool t) v (length x.numbers)) (within : IsWithin (domain_at pool t) (goes_in v))
     (grew : after ≡ set pool t (value_seen (seen_at pool t) (goes_in v))) (found : IsNumberOf (values_at after t) (goes_in v) m) (pushed : y.numbers ≡ x.numbers ++ m ∷ []) where

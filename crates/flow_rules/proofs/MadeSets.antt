@@ -1,5 +1,5 @@
 -- The set of what one change makes of the values of another set.
-use Rattle.std.proofs.Common.{◌≡◌, ℕ, ◌<◌, List, [], length, refl, sym, subst, ◌∙◌, arith, IsTrue}
+use Rattle.std.proofs.Common.{◌≡◌, ℕ, ◌<◌, List, [], length, sym, subst, ◌∙◌, arith, IsTrue}
 use Rattle.abstract_state.specs.{declared.value.PartValue.{PartValue}, Tables.{is_member}}
 use Rattle.flow_model.specs.{declared.change.{Change.{Change}, Update.{Update}}, Tests.{updated, value_after}}
 use Rattle.numbered_sets.specs.{Numbers.{Numbers, has_number}, Pools.{Values, values_at, IsNumberOf, IsLonger}, Views.{values_with, plain_set}, Made.{AreMade}}

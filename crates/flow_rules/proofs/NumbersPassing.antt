@@ -111,12 +111,6 @@ number_on before pool c n v longer is =
       is = λ d. ap (λ (us : List PartValue). get_or us n d) more.is ∙ get_or_append_left (values_at before c) more.more d n is.known ∙ is.is d;
     }
 
-pub number_there : (vs : List PartValue) (n : ℕ) → n < length vs → (v : PartValue) × IsNumberOf vs v n
-number_there vs n lt = (get_or vs n (OfAlarm false), record { known = lt; is = λ d. get_or_default vs n d (OfAlarm false) lt })
-
-pub one_value : (vs : List PartValue) (v w : PartValue) (n : ℕ) → IsNumberOf vs v n → IsNumberOf vs w n → v ≡ w
-one_value vs v w n h k = sym (h.is v) ∙ k.is v
-
 -- ---- the sets of an entry
 
 -- a set that was made stays so as the pool grows

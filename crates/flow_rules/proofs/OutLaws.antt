@@ -2,7 +2,7 @@
 use Rattle.std.proofs.Common.{◌≡◌, ℕ, ◌+◌, ◌<◌, Bool, true, false, not, ◌&&◌, ◌||◌, List, [], ◌∷◌, ◌++◌, length, map, flat_map, refl, sym, ap, subst, ◌∙◌, inl, inr, arith, get_or}
 use Rattle.std.specs.{Prelude.{◌==◌}, List.{range_with_len}}
 use Rattle.std.proofs.Math.Seq.{get_or-append_seam}
-use Rattle.std.proofs.lemmas.Bool.{and_parts, cases_order, eqb-true, false≢true}
+use Rattle.std.proofs.lemmas.Bool.{cases_order, eqb-true, false≢true}
 use Rattle.std.proofs.lemmas.List.{get_or_append_left, get_or_past, length-append, FromFn.{length-map-range_with_len}}
 use Rattle.osek_values.specs.Numbers.{task_no, alarm_no, source_no}
 use Rattle.osek_standard.specs.{declared.app.App.{App}, Apps.{source_count}}

@@ -1,7 +1,7 @@
 -- Groups are settled one after another: who comes in by a decision is one task, or none.
 use Rattle.std.proofs.Common.{◌≡◌, ◌≢◌, ℕ, ◌+◌, ◌<◌, ◌≤◌, Bool, true, false, List, [], length, get_or, set, refl, sym, ap, subst, ◌∙◌, inl, inr, arith, Some, None, get_or-set_same, get_or-set_other}
 use Rattle.std.specs.{Prelude.{◌==◌, is_some, Contains}, declared.option.Option.{Option}}
-use Rattle.std.proofs.{Math.ListN.{get_or-map}, lemmas.{Bool.{and_from, and_parts, cases_Bool, cases_eq, eq-eqb, false≢true, ne_eqb}, List.{get_or_default, length-map, length-set}}}
+use Rattle.std.proofs.{Math.ListN.{get_or-map}, lemmas.{Bool.{and_parts, cases_Bool, cases_eq, eq-eqb, false≢true, ne_eqb}, List.{get_or_default, length-map, length-set}}}
 use Rattle.osek_values.specs.{Numbers.{task_no}, declared.numbers.TaskNo.{TaskNo}}
 use Rattle.osek_standard.specs.{declared.{app.App.{App}, point.Point.{Point}}, Internal.{internal_of}}
 use Rattle.abstract_state.specs.declared.value.PartValue.{PartValue}
@@ -59,12 +59,6 @@ module _ (app : App) (x : Stay) (d : Decision) where
     goes_alone = λ i c. alone c i
 
   module _ (insides : List Insides) (h : AreNaming app (length app.tasks) (inside_tasks insides)) where
-    -- one of those that name an INTERNAL resource has the processor
-    pub it_goes : (i : ℕ) (y : Insides) → i < length insides → ((e : Insides) → get_or insides i e ≡ y) → has_it_after app x d y.task.0 ≡ true → (e : Insides) → goes_inside app x d (get_or insides i e).task.0 ≡ true
-    it_goes i y lt is has e =
-        ap (λ (z : Insides). goes_inside app x d z.task.0) (is e)
-        ∙ and_from (has_it_after app x d y.task.0) (is_some (internal_of app y.task.0)) has (h.each y.task (task_listed insides i y lt is)).1
-
     -- none of them has it
     pub none_goes : ((i : ℕ) (e : Insides) → i < length insides → has_it_after app x d (get_or insides i e).task.0 ≡ false) → (c : ℕ) → goes_inside app x d c ≡ false
     none_goes never c = elim (cases_Bool (goes_inside app x d c)) [

@@ -1,4 +1,3 @@
 pub mod FormsApart
 pub mod KnownTexts
 pub mod LinesApart
-pub mod FindingsApart

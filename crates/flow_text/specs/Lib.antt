@@ -2,4 +2,3 @@ pub mod FlowLines
 pub mod FormCounts
 pub mod GeneratedLine
 pub mod Texts
-pub mod FindingLines

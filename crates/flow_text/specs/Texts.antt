@@ -4,8 +4,7 @@ use Rattle.osek_standard.specs.declared.app.App.{App}
 use Rattle.image_model.specs.declared.{site.Site.{Site}, image.{Image.{Image}, Version.{Version}}}
 use Rattle.image_model.specs.declared.image.Version.TheVariants as version
 use Rattle.abstract_state.specs.declared.edge.FlowEdge.{FlowEdge}
-use Rattle.flow_report.specs.declared.finding.Finding.{Finding}
-use Rattle.flow_text.specs.{FlowLines.{told_line, edge_line, counts_line, info_line}, FindingLines.{finding_line}}
+use Rattle.flow_text.specs.FlowLines.{told_line, edge_line, counts_line, info_line}
 
 -- the line of a block that is a site of an image of this version, and nothing for each other
 abbrev pub site_text : App → Version → ℕ → Option Site → List ℕ
@@ -28,7 +27,3 @@ info_text i = info_line i ++ sites_text i.app i.version i.sites
 -- Nothing is shown of what is known of a status.
 abbrev pub show_text : App → List (Option Site) → List FlowEdge → ℕ → List ℕ
 show_text app sites edges values = sites_text app version.One sites ++ edges_text app edges ++ counts_line app values (length edges)
-
--- What is reported of an application: the lines of findings.
-abbrev pub report_text : App → List Finding → List ℕ
-report_text app findings = flat_map (finding_line app) findings

@@ -5,7 +5,7 @@ ghost use Rattle.flow_text.specs.FormCounts.{site_counts, is_never, is_stay, is_
 use image_model::{Form, Image, Site};
 
 /// How many sites an image has, and how many of them have each form.
-#[derive(Clone, Copy, PartialEq, Eq, Debug)]
+#[derive(Clone, Copy)]
 pub struct SiteCounts {
     pub sites: usize,
     pub never: usize,

@@ -3,13 +3,13 @@ ghost use Rattle.std.specs.Prelude.{◌≡◌, ◌+◌, ◌≤◌, ◌++◌, len
 ghost use Rattle.flow_text.specs.GeneratedLine.{analysis_counts as the_counts, text_size as the_size, gen_line};
 
 use crate::form_counts::{SiteCounts, site_counts};
-use crate::lines::{MAX_FORMS, put_forms};
+use crate::lines::put_forms;
 use image_model::Image;
 use osek_values::limits::LINE_MAX;
-use text_pieces::{MAX_DECIMAL, put, put_decimal};
+use text_pieces::{put, put_decimal};
 
 /// What the analysis of an application counts.
-#[derive(Clone, Copy, PartialEq, Eq, Debug)]
+#[derive(Clone, Copy)]
 pub struct AnalysisCounts {
     pub points: u64,
     /// How high a table can be.
@@ -20,7 +20,7 @@ pub struct AnalysisCounts {
 }
 
 /// How long a text is.
-#[derive(Clone, Copy, PartialEq, Eq, Debug)]
+#[derive(Clone, Copy)]
 pub struct TextSize {
     pub bytes: usize,
     pub lines: usize,

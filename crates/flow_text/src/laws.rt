@@ -3,8 +3,7 @@ ghost use Rattle.std.specs.Prelude.{◌≡◌, ℕ, ◌<◌, length};
 ghost use Rattle.osek_standard.specs.{declared.app.App.{App}, Points.{IsPoint}};
 ghost use Rattle.image_model.specs.{declared.site.{Form.{Form}, Site.{Site}}, Sites.{IsForm}};
 ghost use Rattle.abstract_state.specs.declared.edge.FlowEdge.{FlowEdge};
-ghost use Rattle.flow_report.specs.{declared.finding.Finding.{Finding}, Findings.{IsOf}};
-ghost use Rattle.flow_text.specs.{FlowLines.{form_text, edge_line, site_line, known_line}, FindingLines.{finding_line}};
+ghost use Rattle.flow_text.specs.FlowLines.{form_text, edge_line, site_line, known_line};
 
 /// The text of a form of an application is that of no other of its forms.
 pub fn a_text_tells_one_form()
@@ -26,9 +25,4 @@ pub fn a_line_tells_one_site()
 pub fn a_line_tells_one_known_status()
     ensures { (app : App) (b c : ℕ) (x y : Site) → b < length app.blocks → c < length app.blocks → IsForm (length app.tasks) x.form → IsForm (length app.tasks) y.form →
         known_line app b x ≡ known_line app c y → (b ≡ c) × (x ≡ y) }
-{}
-
-/// A line of a finding tells the finding.
-pub fn a_line_tells_one_finding()
-    ensures { (app : App) (f g : Finding) → IsOf app f → IsOf app g → finding_line app f ≡ finding_line app g → f ≡ g }
 {}

@@ -3,7 +3,7 @@ use Rattle.std.proofs.Common.{◌≡◌, ◌↔◌, Bool, true, false, List, [],
 use Rattle.std.specs.{Prelude.{Contains}, List.{list_any}}
 use Rattle.std.proofs.lemmas.{Bool.{and_from, and_parts, or_cases, or_left, or_right, true≢false}, List.{append-nil, Folds.{Any-from_list_any, list_any_at}}, Map.Views.{Contains-from_any}}
 use Rattle.osek_standard.specs.declared.{app.App.{App}, point.Point.{Point}}
-use Rattle.abstract_state.specs.{declared.edge.FlowEdge.{FlowEdge}, Edges.{flow_edge}, Forms.{Edge}, Tables.{Sets, same_point}}
+use Rattle.abstract_state.specs.{declared.edge.FlowEdge.{FlowEdge}, Edges.{flow_edge, Edge}, Tables.{Sets, same_point}}
 use Rattle.abstract_state.proofs.EqualityLaws.{point_right, point_itself}
 use Rattle.flow_watch.specs.declared.alarm.Alarm.{Alarm}
 use Rattle.flow_watch.specs.Records.{last_of, MayCome, IsQuiet, IsFirstAlarm, IsAlarmOf}

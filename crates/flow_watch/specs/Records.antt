@@ -2,7 +2,7 @@
 use Rattle.std.specs.{Prelude.{◌≡◌, ◌⊎◌, ⊤, List, [], ◌∷◌, ◌++◌, length, map, IsTrue, Some, None}, declared.option.Option.{Option}}
 use Rattle.osek_values.specs.declared.{event.Event.{Event}, numbers.ModeNo.{ModeNo}}
 use Rattle.osek_standard.specs.{declared.{app.App.{App}, point.Point.{Point}}, Dispatch.{Stepped}, Kernel.{run}, Points.{point_of}}
-use Rattle.abstract_state.specs.{Forms.{Edge}, Tables.{Sets}}
+use Rattle.abstract_state.specs.{Edges.{Edge}, Tables.{Sets}}
 use Rattle.flow_watch.specs.declared.alarm.Alarm.{Alarm}
 
 -- the record of a run: the point after the start, and after each event

@@ -1,7 +1,8 @@
 -- A watch: what it keeps, and what seeing a point makes of it.
 use Rattle.std.specs.{Prelude.{◌≡◌, ◌↔◌, ℕ, ◌+◌, Bool, true, false, ◌||◌, ◌&&◌, List, [], ◌∷◌, IsTrue, Contains, Some, None, refl}, List.{list_any}, Coded.{Coded, code_by, coded×, coded_list, coded_option, coded_ℕ}, declared.option.Option.{Option}}
 use Rattle.osek_standard.specs.{declared.{app.App.{App}, point.Point.{Point}}, contracts.{app.App.{the_row as app_row}, point.Point.{the_row as point_row}}}
-use Rattle.abstract_state.specs.{declared.edge.FlowEdge.{FlowEdge}, contracts.edge.FlowEdge.{the_row as edge_row}, Edges.{flow_edge}, Forms.{Edge}, Tables.{Sets, same_point}}
+use Rattle.abstract_state.specs.{declared.edge.FlowEdge.{FlowEdge}, contracts.edge.FlowEdge.{the_row as edge_row}, Edges.{flow_edge, Edge}}
+use Rattle.abstract_state.specs.Tables.{Sets, same_point}
 use Rattle.global_cfg.specs.{Edges.{AreAscending}, PointOrder.{AreInOrder}}
 use Rattle.flow_watch.specs.{declared.alarm.Alarm.{Alarm}, contracts.alarm.Alarm.{the_row as alarm_row}}
 

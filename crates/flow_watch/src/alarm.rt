@@ -2,7 +2,7 @@
 use osek_standard::Point;
 
 /// The first point of a record that may not come where it stands.
-#[derive(Clone, Copy, PartialEq, Eq, Debug)]
+#[derive(Clone, Copy, PartialEq, Eq)]
 pub struct Alarm {
     /// Counted in points, from 0.
     pub place: u64,

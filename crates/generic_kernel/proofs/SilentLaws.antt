@@ -1,5 +1,5 @@
 -- Instructions that note nothing leave each task as high as it was.
-use Rattle.std.proofs.{Common.{◌≡◌, ℕ, refl, ap, arith, Bool, true, false, None, Some, IfSome, ◌<◌, List, length, sym, subst, ◌∙◌}, lemmas.Bool.{false≢true, eq-eqb}}
+use Rattle.std.proofs.{Common.{◌≡◌, ℕ, refl, ap, arith, Bool, true, false, None, Some, IfSome, ◌<◌, List, length, sym, ◌∙◌}, lemmas.Bool.{false≢true, eq-eqb}}
 use Rattle.std.specs.{Int.Bits.{and_zero_r}, declared.option.Option.{Option}, Prelude.{if◌then◌else◌, is_some}, List.{cons_option}}
 use Rattle.osek_values.specs.{Hooks.{hook_set}, declared.{mask.Mask.{Mask}, numbers.{ResNo.{ResNo}, TaskNo.{TaskNo}}}}
 use Rattle.osek_standard.specs.declared.{app.App.{App}, state.{State.{State}, Processor.{Processor}}}
@@ -7,7 +7,7 @@ use Rattle.osek_standard.specs.declared.task_state.{Place.{Place}, TaskState.{Ta
 use Rattle.osek_standard.specs.{TaskStates.{is_live}, States.{caller, task_of, task_state, is_that_task}, Priority.{base_priority, highest}, Services.{counted_by}}
 use Rattle.osek_standard.specs.{Line.{first_in_line, out_of_line}, Dispatch.{dispatched}}
 use Rattle.osek_standard.specs.{Effects.{moved, moved_by, standing_at, task_at, wanted, returned}, Well.{Well, HasProcessor, IsProcessor}}
-use Rattle.osek_standard.specs.Internal.{occupied, internal_of, inside_as, kept, kept_by, put_inside}
+use Rattle.osek_standard.specs.Internal.{occupied, internal_of, inside_as, put_inside}
 use Rattle.osek_standard.specs.declared.state.Processor.TheVariants as processor
 use Rattle.osek_standard.proofs.Keeps.{task_after}
 use Rattle.generic_kernel.specs.{Levels.{level, level_if}, Moves.{task_inside, KeepsLevels}}
@@ -76,22 +76,6 @@ module _ (app : App) where
       task_after s t.0 (record (task_state s t.0) { activity = inside_as (is_some o) (task_state s t.0).activity }) known
       (λ (v : ℕ) (y : TaskState). is_that_task (task_inside app (processor.Running t)) v ≡ false → level_in v y ≡ level app s v)
       (kept_level s t o refl) (λ v other f. refl) u e
-
-  kept_levels_by : (s : State) → Well app s → (p : Processor) → IsProcessor app s p → (u : ℕ) → is_that_task (task_inside app p) u ≡ false → level app (kept_by app s p) u ≡ level app s u
-  kept_levels_by s w processor.Halted h u e = refl
-  kept_levels_by s w processor.Idle h u e = refl
-  kept_levels_by s w (processor.Running t) h u e = inside_levels s t (omega (arith, w.tasks_len, h.running.0)) u e
-  kept_levels_by s w (processor.Interrupted k over) h u e = refl
-
-  kept_processor : (s : State) (p : Processor) → (kept_by app s p).processor ≡ s.processor
-  kept_processor s processor.Halted = refl
-  kept_processor s processor.Idle = refl
-  kept_processor s (processor.Running t) = refl
-  kept_processor s (processor.Interrupted k over) = refl
-
-  -- a task that keeps the processor is as high as it was, unless it names an INTERNAL resource
-  pub kept_levels : (s : State) → Well app s → KeepsLevels app s (kept app s)
-  kept_levels s w u e = kept_levels_by s w s.processor w.processor u (subst (λ (p : Processor). is_that_task (task_inside app p) u ≡ false) (kept_processor s s.processor) e)
 
   line_levels : (s : State) (c x : Option TaskNo) (u : ℕ) → level app (out_of_line (first_in_line s c) x) u ≡ level app s u
   line_levels s None None u = refl

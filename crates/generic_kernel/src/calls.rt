@@ -8,13 +8,14 @@ ghost use Rattle.osek_standard.specs.declared.block.Kind.TheVariants as a_kind;
 
 use crate::replies::Reply;
 use crate::services::{chain_task, schedule, terminate_task};
+use activation::activate;
 use event_alarm::{
     cancel_alarm, clear_event, count_up, expire, get_alarm, get_event, set_abs_alarm, set_event,
     set_rel_alarm,
 };
 use osek_standard::{
     AlarmService, App, ArmService, Call, Caller, Kind, MaskService, PlainService, ResourceService,
-    State, TaskService, activate,
+    State, TaskService,
 };
 use osek_values::{AlarmNo, Ask, CounterNo, IsrNo, ResNo, SourceNo, Status, TaskNo, Value};
 

@@ -67,13 +67,10 @@ fn asked_by(app: &App, caller: Caller, kind: Kind, ask: Ask) -> Ask
             Ask::No | Ask::Left | Ask::Free => ask,
             Ask::Maybe => match app.task(task).schedule {
                 Schedule::Full => Ask::Maybe,
-                Schedule::Non => {
-                    if kind == Kind::Call(Call::Plain(PlainService::Schedule)) {
-                        Ask::Maybe
-                    } else {
-                        Ask::No
-                    }
-                }
+                Schedule::Non => match kind {
+                    Kind::Call(Call::Plain(PlainService::Schedule)) => Ask::Maybe,
+                    _ => Ask::No,
+                },
             },
         },
     }

@@ -7,7 +7,7 @@ use osek_standard::App;
 use osek_values::{Ask, HookSet, Notes, Status, Value};
 
 /// What a call answers and asks.
-#[derive(Clone, Copy, PartialEq, Eq, Debug)]
+#[derive(Clone, Copy)]
 pub struct Reply {
     pub status: Option<Status>,
     pub value: Option<Value>,
@@ -50,7 +50,7 @@ impl Reply {
 }
 
 /// What an instruction notes, and what it asks of the scheduler.
-#[derive(Clone, Copy, PartialEq, Eq, Debug)]
+#[derive(Clone, Copy)]
 pub struct Effect {
     pub notes: Notes,
     pub ask: Ask,

@@ -6,7 +6,8 @@ ghost use Rattle.osek_standard.specs.Services.{left};
 ghost use Rattle.osek_standard.specs.{Effects.{end_task as end_task_row}, Well.{Well, IsActive}};
 
 use crate::inside::set_inside;
-use osek_standard::{Activity, App, Caller, Processor, State, activate, is_full};
+use activation::{activate, is_full};
+use osek_standard::{Activity, App, Caller, Processor, State};
 use osek_values::{Ask, Status, TaskNo};
 
 // suspended, or begun anew where a further activation is left

@@ -4,7 +4,8 @@ use Rattle.std.specs.Prelude.{◌↔◌, Contains}
 use Rattle.std.proofs.lemmas.List.{get_or-map, length-map, Elements.{Contains-append_left, Contains-append_right, Contains-append_cases, Contains-push, Contains-push_cases}}
 use Rattle.osek_standard.specs.{declared.{app.App.{App}, point.Point.{Point}}, Points.{point_number}}
 use Rattle.osek_standard.proofs.Members.{among_contained, among_map, contained_among, map_among}
-use Rattle.abstract_state.specs.{declared.{table.{TableRow.{TableRow}, PlainTable.{PlainTable}}, edge.FlowEdge.{FlowEdge}}, Forms.{Edge}, Tables.{sets_of}, Written.{IsWritten}}
+use Rattle.abstract_state.specs.{declared.{table.{TableRow.{TableRow}, PlainTable.{PlainTable}}, edge.FlowEdge.{FlowEdge}}, Edges.{Edge}}
+use Rattle.abstract_state.specs.{Tables.{sets_of}, Written.{IsWritten}}
 use Rattle.abstract_state.specs.Edges.{flow_edge}
 use Rattle.global_cfg.specs.{Edges.{IsBefore, AreAscending}, PointOrder.{AreInOrder}, Targets.{LeadsTo, AreTargets}}
 use Rattle.global_cfg.proofs.{Pairs.{pairs_append}, TableRows.{edge_shown, edge_leads, edge_row}}

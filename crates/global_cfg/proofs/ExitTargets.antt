@@ -1,39 +1,27 @@
 -- The points to which edges lead are the targets of exits.
-use Rattle.std.proofs.Common.{◌≡◌, ◌≢◌, ◌⊎◌, ℕ, ◌<◌, false, List, [], IsTrue, refl, sym, subst, ◌∙◌, inl, inr, arith}
+use Rattle.std.proofs.Common.{◌≡◌, ◌≢◌, ◌⊎◌, List, [], refl, sym, subst, ◌∙◌, inl, inr, arith}
 use Rattle.std.specs.Prelude.{Contains}
-use Rattle.std.proofs.lemmas.Bool.{cases_lt}
 use Rattle.osek_values.specs.declared.event.Event.{Event}
 use Rattle.osek_standard.specs.{declared.{app.App.{App}, state.State.{State}, point.Point.{Point}}, Points.{IsPoint}, Kernel.{step}}
 use Rattle.osek_standard.proofs.PointLaws.{one_number}
-use Rattle.abstract_state.specs.{declared.{value.PartValue.{PartValue, TheVariants.{OfAlarm}}, table.PlainEntry.{PlainEntry}}, Components.{component_count}, Forms.{IsAnew}}
-use Rattle.abstract_state.specs.Tables.{set_at, is_member}
+use Rattle.abstract_state.specs.{declared.table.PlainEntry.{PlainEntry}, Edges.{IsAnew}}
 use Rattle.abstract_state.proofs.AllowedLaws.{well_point}
 use Rattle.flow_model.specs.Effects.{IsAt}
-use Rattle.flow_exits.specs.{declared.exit.Exit.{Exit}, Exits.{IsBy, CoverSteps, IsStepTo, IsFilled, IsExact, AreExact}}
+use Rattle.flow_exits.specs.{declared.exit.Exit.{Exit}, Exits.{IsBy, CoverSteps, AreExact}}
+use Rattle.flow_exits.proofs.ExactExits.{some_step}
 use Rattle.global_cfg.specs.Targets.{IsEndOf, AreEndsPut, LeadsTo, AreTargets}
 use Rattle.global_cfg.proofs.LeadingOn.{next_well, target_point, moves_on, leads_where_it_moves, stays_silent}
-
--- a value of each set
-some_value : (app : App) (entry : PlainEntry) → IsFilled app entry → (c : ℕ) → (v : PartValue) × (c < component_count app → IsTrue (is_member (set_at entry c) v))
-some_value app entry filled c = elim (cases_lt c (component_count app)) [
-  | inl below ↦ (let some = filled c below in (some.value, λ lt. some.member))
-  | inr above ↦ (OfAlarm false, λ lt. absurd (omega (arith, lt, above)))
-]
 
 module _ (app : App) (p : Point) (entry : PlainEntry) where
   -- an edge leads to a point of the application
   leads_to_point : (q : Point) → LeadsTo app p entry q → IsPoint app q
   leads_to_point q x = subst (IsPoint app) x.ends (well_point app (step app x.from x.event).state (next_well app p entry x.from x.event x.at))
 
-  -- a step by an exit
-  some_step : (x : Exit) (exact : IsExact app p entry x) → IsStepTo app p entry x (λ c. (some_value app x.entry exact.filled c).0)
-  some_step x exact = exact.shown (λ c. (some_value app x.entry exact.filled c).0) (λ c lt. (some_value app x.entry exact.filled c).1 lt)
-
   module _ (exits : List Exit) (exact : AreExact app p entry exits) where
     -- an exit by which control flow leads on leads to its target
     led_there : (q : Point) → IsEndOf p exits q → LeadsTo app p entry q
     led_there q x =
-        let s = some_step x.exit (exact x.exit x.listed) in
+        let s = some_step app p entry x.exit (exact x.exit x.listed) in
         record {
           from = s.from;
           event = s.event;

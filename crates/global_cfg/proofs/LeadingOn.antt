@@ -10,7 +10,7 @@ use Rattle.osek_standard.specs.declared.point.Point.TheVariants as point
 use Rattle.osek_standard.specs.{States.{here}, Points.{point_at, point_of, point_number, IsPoint}, Effects.{effect}, Dispatch.{To, Stepped}, Kernel.{step}}
 use Rattle.osek_standard.specs.{Outcomes.{Silent, Did, shows}, Well.{Well}}
 use Rattle.osek_standard.proofs.{OwnerLaws.{own_once}, PointLaws.{one_number}, StepKeeps.{step_keeps}}
-use Rattle.abstract_state.specs.{declared.table.PlainEntry.{PlainEntry}, Forms.{IsAnew}}
+use Rattle.abstract_state.specs.{declared.table.PlainEntry.{PlainEntry}, Edges.{IsAnew}}
 use Rattle.abstract_state.proofs.{AlikeLaws.{alike_point}, AllowedLaws.{well_point}, MarkLaws.{shown_instruction, shown_silent}}
 use Rattle.flow_model.specs.declared.case.Decision.{Decision}
 use Rattle.flow_model.specs.declared.case.Decision.TheVariants as decision

@@ -1,7 +1,7 @@
 -- Points that are put in, one after another.
 use Rattle.std.proofs.Common.{◌≡◌, ◌⊎◌, ℕ, ◌+◌, ◌<◌, true, false, List, [], ◌∷◌, ◌++◌, length, get_or, map, take, refl, sym, ap, subst, ◌∙◌, inl, inr}
 use Rattle.std.specs.{Prelude.{Contains}, declared.option.Option.{Option}}
-use Rattle.std.proofs.lemmas.{List.{append-nil, map-append, take_more, Elements.{Contains-append_left, Contains-append_right, Contains-append_cases}}, Grind.{flat_map-append}}
+use Rattle.std.proofs.lemmas.List.{map-append, take_more, Elements.{Contains-append_left, Contains-append_right, Contains-append_cases}}
 use Rattle.osek_standard.proofs.Members.{among_contained, among_map, contained_among, map_among}
 use Rattle.osek_standard.specs.{declared.point.Point.{Point}, Points.{point_number}}
 use Rattle.flow_model.specs.declared.case.Decision.{Decision}
@@ -9,7 +9,7 @@ use Rattle.flow_exits.specs.declared.exit.Exit.{Exit}
 use Rattle.numbered_sets.specs.Pools.{Values}
 use Rattle.flow_rules.specs.declared.group.{NumberEnd.{NumberEnd}, ExitGroup.{ExitGroup}}
 use Rattle.flow_rules.specs.declared.group.Ends.TheVariants as ends
-use Rattle.flow_rules.specs.Groups.{with_end, exit_at, exits_by, exits_of, all_exits}
+use Rattle.flow_rules.specs.Groups.{with_end, exit_at, exits_by}
 use Rattle.global_cfg.specs.{PointOrder.{AreInOrder, HasNumber, IsPut}, Targets.{leads, end_target, IsEndOf, AreAllPut, AreEndsPut, IsTargetAfter, ArePutAfter}}
 
 -- none is to be put in, or those that are have their numbers there
@@ -136,13 +136,8 @@ module _ (p : Point) where
   pub put_with_numbers : (pool : List Values) (g : ExitGroup) (xs : List NumberEnd) (a b : List Point) → ArePutAfter p g.decision (map end_target xs) a b → AreEndsPut p (exits_by pool g (ends.With xs)) a b
   put_with_numbers pool g xs a b put = ends_by_targets (λ (x : NumberEnd). exit_at pool g (with_end g.entry x) x.target) end_target g.decision (λ x. refl) (λ x. refl) xs a b put
 
--- one end more, and one group more, in a loop over their list
+-- one end more, in a loop over their list
 pub more_ends : (items : List NumberEnd) (i : ℕ) (x : NumberEnd) → i < length items → x ≡ get_or items i x → map end_target (take i items) ++ end_target x ∷ [] ≡ map end_target (take (i + 1) items)
 more_ends items i x lt e =
     ap (λ (y : NumberEnd). map end_target (take i items) ++ end_target y ∷ []) e
     ∙ sym (ap (λ (xs : List NumberEnd). map end_target xs) (take_more items i x lt) ∙ map-append end_target (take i items) (get_or items i x ∷ []))
-
-pub more_groups : (pool : List Values) (items : List ExitGroup) (i : ℕ) (x : ExitGroup) → i < length items → x ≡ get_or items i x → all_exits pool (take i items) ++ exits_of pool x ≡ all_exits pool (take (i + 1) items)
-more_groups pool items i x lt e =
-    ap (λ (xs : List Exit). all_exits pool (take i items) ++ xs) (sym (append-nil (exits_of pool x))) ∙ sym (flat_map-append (exits_of pool) (take i items) (x ∷ []))
-    ∙ ap (all_exits pool) (ap (λ (y : ExitGroup). take i items ++ y ∷ []) e ∙ sym (take_more items i x lt))

@@ -3,7 +3,8 @@ use Rattle.std.proofs.Common.{◌≡◌, ℕ, ◌<◌, length, take, get_or, IsT
 use Rattle.std.specs.Prelude.{Contains}
 use Rattle.std.proofs.lemmas.List.{get_or-take, get_or_default, length-take}
 use Rattle.osek_standard.specs.{declared.{app.App.{App}, state.State.{State}, point.Point.{Point}}, Points.{point_of}}
-use Rattle.abstract_state.specs.{declared.table.{TableRow.{TableRow}, PlainTable.{PlainTable}}, Components.{abstract_of}, Forms.{Edge}, Tables.{In, sets_of, HasRow}}
+use Rattle.abstract_state.specs.{declared.table.{TableRow.{TableRow}, PlainTable.{PlainTable}}, Components.{abstract_of}, Edges.{Edge}}
+use Rattle.abstract_state.specs.Tables.{In, sets_of, HasRow}
 use Rattle.abstract_state.specs.Written.{IsWritten}
 use Rattle.abstract_state.proofs.EqualityLaws.{written_entry}
 use Rattle.flow_model.specs.Effects.{IsAt}

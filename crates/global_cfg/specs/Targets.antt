@@ -2,7 +2,7 @@
 use Rattle.std.specs.{Prelude.{◌≡◌, ◌≢◌, ◌⊎◌, ◌||◌, ◌==◌, not, Bool, true, false, List, Some, None, Contains}, declared.option.Option.{Option}}
 use Rattle.osek_values.specs.declared.event.Event.{Event}
 use Rattle.osek_standard.specs.{declared.{app.App.{App}, state.State.{State}, point.Point.{Point}}, Points.{point_of, point_number}, Kernel.{step}}
-use Rattle.abstract_state.specs.{declared.table.PlainEntry.{PlainEntry}, Forms.{IsAnew}}
+use Rattle.abstract_state.specs.{declared.table.PlainEntry.{PlainEntry}, Edges.{IsAnew}}
 use Rattle.flow_model.specs.declared.case.Decision.{Decision}
 use Rattle.flow_model.specs.declared.case.Decision.TheVariants as decision
 use Rattle.flow_model.specs.Effects.{IsAt}

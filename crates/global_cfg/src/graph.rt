@@ -1,7 +1,7 @@
 //! The control-flow graph of a table.
 ghost use Rattle.std.specs.Prelude.{◌≡◌, ◌++◌, ◌↔◌, map, Contains, IfOk, OnOk};
 ghost use Rattle.osek_standard.specs.declared.point.Point.{Point};
-ghost use Rattle.abstract_state.specs.{Forms.{Edge}, Tables.{sets_of}, Written.{IsWritten}, Edges.{flow_edge}};
+ghost use Rattle.abstract_state.specs.{Edges.{Edge, flow_edge}, Tables.{sets_of}, Written.{IsWritten}};
 ghost use Rattle.global_cfg.specs.Edges.{AreAscending};
 
 use crate::targets::targets;

@@ -14,12 +14,16 @@ use Rattle.image_model.specs.declared.site.Known.TheVariants as known
 use Rattle.image_model.specs.declared.image.Version.{Version}
 use Rattle.image_model.specs.declared.image.Version.TheVariants as version
 use Rattle.osek_standard.specs.Apps.{is_routine_end, call_may_dispatch, may_dispatch, is_task_block_in, is_site_in}
-use Rattle.image_codec.specs.declared.{fault.{ImageRule.TheVariants.{I3, I6}, Fault.{Fault}}, parts.{Header.{Header}, Tables.{Tables}, Parts.{Parts}}}
-use Rattle.image_codec.specs.{Laws.{BlocksFaults, ImageFaults}, ImageReading.{placed, read_image}, TableReading.{tables_at}}
-use Rattle.image_codec.specs.Reading.{Read, ◌>>=◌, kept, found_at, number_at, tested_at, byte_below_at, flag_at, entries_at}
-use Rattle.image_codec.specs.BlockReading.{blank_kinds, is_allowed, is_takable, is_due, is_way, judged_at, kind_at, task_no_at, takable_at, alarm_no_at, events_at, locks, lock_of, lock_at, due_at, operands_at, way_at, ways_at, form_of, form_at, knowns, known_of, known_at, stated_at, site_at, block_at, blocks_at, parts_at, all_at}
+use Rattle.image_fields.specs.declared.{fault.{ImageRule.TheVariants.{I3, I6}, Fault.{Fault}}, parts.{Header.{Header}, Tables.{Tables}}}
+use Rattle.image_codec.specs.declared.parts.Parts.{Parts}
+use Rattle.image_codec.specs.{Laws.{BlocksFaults, ImageFaults}, ImageReading.{placed, read_image}}
+use Rattle.image_fields.specs.TableReading.{tables_at}
+use Rattle.image_fields.specs.Reading.{Read, ◌>>=◌, kept, found_at, number_at, tested_at, byte_below_at, flag_at, entries_at}
+use Rattle.image_fields.specs.BlockReading.{blank_kinds, is_allowed, is_takable, is_due, is_way, judged_at, kind_at, task_no_at, takable_at, alarm_no_at, events_at, locks, lock_of, lock_at, due_at, operands_at, way_at, ways_at, form_of, form_at, knowns, known_of, known_at, stated_at, site_at, block_at, blocks_at}
+use Rattle.image_codec.specs.ImageReading.{parts_at, all_at}
 use Rattle.image_codec.specs.FieldTable.{fault_of, Field, field, any, some, below, or_later, first_broken, behind, kind_of_number, is_form, kind_field, task_field, resource_field, alarm_field, events_field, ticks_field, way_field, call_fields, way_fields, further_field, is_known, site_fields, block_fields, or_else, blocks_fault}
-use Rattle.image_codec.proofs.{BlockLaws.{Entry, blank_call, blank_of}, BlockLoop.{read_block}}
+use Rattle.image_codec.proofs.BlockLaws.{Entry, blank_call, blank_of}
+use Rattle.image_fields.proofs.BlockLoop.{read_block}
 use Rattle.image_codec.proofs.FieldFaults.{CoversAt, Covers, Any, Numbered, covers_then, covers_made, rule_of, kept_cross, number, number_covers, tested_covers, crossed_covers, crossed_byte_covers, long, byte_covers, Found, found_in}
 
 -- ---- forms

@@ -8,14 +8,15 @@ use Rattle.osek_standard.specs.declared.block.Kind.TheVariants as kind
 use Rattle.osek_standard.specs.declared.call.Call.{Call}
 use Rattle.image_model.specs.CallNames as call
 use Rattle.osek_values.specs.declared.lock.Lock.TheVariants as lock
-use Rattle.image_codec.specs.declared.fault.ImageRule.TheVariants.{I3, I5}
+use Rattle.image_fields.specs.declared.fault.ImageRule.TheVariants.{I3, I5}
 use Rattle.image_model.specs.declared.{site.Site.{Site}, image.Version.{Version}}
-use Rattle.image_codec.specs.declared.parts.Tables.{Tables}
+use Rattle.image_fields.specs.declared.parts.Tables.{Tables}
 use Rattle.osek_standard.specs.Apps.{is_site_in}
 use Rattle.image_codec.specs.Spelling.{one, two, four, eight, kind_number, lock_number, operand_bytes, way_bytes, site_bytes, flag_number, block_bytes}
-use Rattle.image_codec.specs.Reading.{AreBytes, Read, ◌>>=◌, number_at, tested_at, flag_at}
-use Rattle.image_codec.specs.BlockReading.{blank_kinds, is_way, kind_at, task_no_at, takable_at, alarm_no_at, events_at, lock_at, due_at, operands_at, way_at, ways_at, site_at, block_at}
-use Rattle.image_codec.proofs.Spells.{ok_is, done_with, Takes, Spells, nothing_more, and_then, said, wide16, wide32, number_law, Tested, tested_law, tested_number_law, joined6}
+use Rattle.image_fields.specs.Reading.{AreBytes, Read, ◌>>=◌, number_at, tested_at, flag_at}
+use Rattle.image_fields.specs.BlockReading.{blank_kinds, is_way, kind_at, task_no_at, takable_at, alarm_no_at, events_at, lock_at, due_at, operands_at, way_at, ways_at, site_at, block_at}
+use Rattle.image_fields.proofs.Steps.{ok_is, done_with}
+use Rattle.image_codec.proofs.Spells.{Takes, Spells, nothing_more, and_then, said, wide16, wide32, number_law, Tested, tested_law, tested_number_law, joined6}
 use Rattle.image_codec.proofs.FieldLaws.{flag_law}
 use Rattle.image_codec.proofs.KindLaws.{GoodBlank, kind_law, other_of, GoodOperands, GoodFilled, operands_take, task_no_law, takable_law, alarm_no_law, events_law, due_law, lock_law, ticks_law, set_event_law, made_of}
 use Rattle.image_codec.proofs.SiteLaws.{GoodSite, site_law}

@@ -10,9 +10,10 @@ use Rattle.osek_standard.specs.declared.block.Kind.TheVariants as kind
 use Rattle.image_model.specs.declared.{site.Site.{Site}, image.Version.{Version}}
 use Rattle.image_model.specs.declared.image.Version.TheVariants as version
 use Rattle.image_model.specs.CallNames as call
-use Rattle.image_codec.specs.declared.parts.{Tables.{Tables}, Parts.{Parts}}
-use Rattle.image_codec.specs.BlockReading.{tick_order, where_has, task_range, isr_range, counter_range, isr_may_in, tasks_allow, isrs_allow, counter_allows, counters_allow, is_owned}
-use Rattle.image_codec.specs.BlockReading.{is_due_in, is_due}
+use Rattle.image_fields.specs.declared.parts.Tables.{Tables}
+use Rattle.image_codec.specs.declared.parts.Parts.{Parts}
+use Rattle.image_fields.specs.BlockReading.{tick_order, where_has, task_range, isr_range, counter_range, isr_may_in, tasks_allow, isrs_allow, counter_allows, counters_allow, is_owned}
+use Rattle.image_fields.specs.BlockReading.{is_due_in, is_due}
 use Rattle.image_codec.proofs.{KindLaws.{GoodOperands}, BlockLaws.{unwayed, blank_of, GoodWay, LeadsWell, GoodBlock}, WholeTables.{tables_of_parts}}
 use Rattle.image_codec.proofs.Places.{numbered_at, within_among, where_among}
 

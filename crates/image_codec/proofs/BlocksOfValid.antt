@@ -14,13 +14,15 @@ use Rattle.image_model.specs.declared.site.Known.TheVariants as known
 use Rattle.image_model.specs.declared.image.Version.{Version}
 use Rattle.image_model.specs.declared.image.Version.TheVariants as version
 use Rattle.image_model.specs.Versions.{IsUnknown, SaysNothing, FitsAlone}
-use Rattle.image_codec.specs.declared.parts.{Tables.{Tables}, Parts.{Parts}}
+use Rattle.image_fields.specs.declared.parts.Tables.{Tables}
+use Rattle.image_codec.specs.declared.parts.Parts.{Parts}
 use Rattle.image_model.specs.Sites.{IsForm}
 use Rattle.image_codec.specs.{Spelling.{kind_number, form_number}, Fits.{FitsKind}}
-use Rattle.image_codec.specs.BlockReading.{blank_kinds, tick_order, where_has, task_range, isr_range, counter_range, isr_may_in, tasks_allow, isrs_allow, counter_allows, counters_allow, is_owned, is_allowed, is_due_in, is_due, form_of}
+use Rattle.image_fields.specs.BlockReading.{blank_kinds, tick_order, where_has, task_range, isr_range, counter_range, isr_may_in, tasks_allow, isrs_allow, counter_allows, counters_allow, is_owned, is_allowed, is_due_in, is_due, form_of}
 use Rattle.image_codec.proofs.KindLaws.{other_of, GoodOperands, GoodNo, GoodBlank, GoodFilled}
 use Rattle.image_codec.proofs.{BlockLaws.{unwayed, blank_of, listed_blank, number_unwayed, number_blank, GoodWay, LeadsWell}, SiteLaws.{GoodKnown, GoodSite}}
-use Rattle.image_codec.proofs.{OwnerTests.{any_of_owners}, WholeTables.{tables_of_parts}, Places.{all_numbered, among_within, within_among, among_where}}
+use Rattle.image_fields.proofs.OwnerTests.{any_of_owners}
+use Rattle.image_codec.proofs.{WholeTables.{tables_of_parts}, Places.{all_numbered, among_within, within_among, among_where}}
 use Rattle.image_codec.proofs.BlocksOfGood.{same_within, task_may_blank, isr_may_blank, for_resource_blank, tick_order_blank, is_end, tick_place}
 
 -- ---- forms

@@ -4,13 +4,17 @@ use Rattle.std.specs.List.{zip}
 use Rattle.std.proofs.Props.{props}
 use Rattle.osek_standard.specs.{declared.{app.App.{App}, block.Block.{Block}}, Validity.{IsValid, IsValid-prop}}
 use Rattle.image_model.specs.Versions.{FitsAlone, FitsAlone-prop}
-use Rattle.image_codec.specs.declared.fault.{Fault.{Fault}, ImageFault.{ImageFault}}
+use Rattle.image_fields.specs.declared.fault.Fault.{Fault}
+use Rattle.image_codec.specs.declared.fault.ImageFault.{ImageFault}
 use Rattle.image_model.specs.declared.{site.Site.{Site}, image.Image.{Image}}
-use Rattle.image_codec.specs.declared.parts.{Header.{Header}, Tables.{Tables}, Parts.{Parts}}
+use Rattle.image_fields.specs.declared.parts.{Header.{Header}, Tables.{Tables}}
+use Rattle.image_codec.specs.declared.parts.Parts.{Parts}
 use Rattle.image_model.specs.Sites.{AreSites, AreSites-prop}
-use Rattle.image_codec.specs.{Spelling.{spelling}, Reading.{AreBytes, Read, ◌>>=◌}, TableReading.{header_at, tables_at}, BlockReading.{blocks_at, parts_at, all_at}}
+use Rattle.image_codec.specs.{Spelling.{spelling}, ImageReading.{parts_at, all_at}}
+use Rattle.image_fields.specs.{Reading.{AreBytes, Read, ◌>>=◌}, TableReading.{header_at, tables_at}, BlockReading.{blocks_at}}
 use Rattle.image_codec.specs.ImageReading.{placed, read_image, parts_of}
-use Rattle.image_codec.proofs.{BlockLaws.{Entry}, BlockLoop.{zip_firsts, zip_seconds}, PartsLaws.{spelling_is, all_takes}, WholeTables.{tables_of_parts}}
+use Rattle.image_codec.proofs.{BlockLaws.{Entry}, PartsLaws.{spelling_is, all_takes}, WholeTables.{tables_of_parts}}
+use Rattle.image_fields.proofs.BlockLoop.{zip_firsts, zip_seconds}
 
 abbrev some_parts : Header → Tables → List Block → List (Option Site) → List ℕ → Read Parts
 some_parts h t bs ss rest = Ok (record { version = h.version; hooks = h.hooks; tables = t; blocks = bs; sites = ss }, rest)

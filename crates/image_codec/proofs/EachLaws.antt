@@ -3,8 +3,9 @@ use Rattle.std.proofs.Common.{◌≡◌, ℕ, ◌<◌, Bool, true, false, not, L
 use Rattle.std.specs.{List.{list_any, IsDistinct, AllByRecursion}, Str.{bytes_eq}}
 use Rattle.std.proofs.lemmas.{Bool.{or_parts, or_from, not_from_false, not-true, and_parts, and_from}, List.{append-nil, length-append, get_or-map, length-map}}
 use Rattle.std.proofs.{lemmas.List.Elements.{All-push, All-nil, All-get_or, All-map}, Math.Seq.{get_or-append_seam}}
-use Rattle.osek_values.specs.Names.{is_name, AreNames}
-use Rattle.image_codec.proofs.{Spells.{Each}, FieldLaws.{is_fresh}}
+use Rattle.osek_values.{specs.Names.{is_name, AreNames}, proofs.Lists.{none_distinct}}
+use Rattle.image_codec.proofs.{Spells.{Each}}
+use Rattle.image_fields.proofs.NameReading.{is_fresh}
 
 -- ---- lists without repeats
 
@@ -27,10 +28,6 @@ pub distinct_before : {K : Type 0} (e : K → K → Bool) (xs : List K) (y : K) 
 unfolding IsDistinct
 distinct_before e [] y ys d = refl
 distinct_before e (x ∷ xs) y ys d = or_from (e x y) (list_any (λ z. e z y) xs) (tie_of_later e x y xs ys d.0) (distinct_before e xs y ys d.1)
-
-pub distinct_nil : {K : Type 0} (e : K → K → Bool) → IsDistinct e []
-unfolding IsDistinct
-distinct_nil e = tt
 
 pub map_push : {X Y : Type 0} (f : X → Y) (xs : List X) (x : X) → map f (xs ++ x ∷ []) ≡ map f xs ++ f x ∷ []
 map_push f [] x = refl
@@ -107,7 +104,7 @@ module _ {X : Type 0} (Good : List X → X → Type 0) (name : X → List ℕ) (
   pub each_named : (xs : List X) → Each Good [] xs → AreNames (map name xs)
   each_named xs good = record {
     each = map_all (λ n. is_name n ≡ true) name xs (each_all Good (λ x. is_name (name x) ≡ true) (λ e x g. (and_parts (is_name (name x)) (not (list_any (λ m. bytes_eq m (name x)) (map name e))) (fresh e x g)).0) xs good);
-    distinct = each_distinct Good bytes_eq name [] (λ e x g. not-true (list_any (λ m. bytes_eq m (name x)) (map name e)) (and_parts (is_name (name x)) (not (list_any (λ m. bytes_eq m (name x)) (map name e))) (fresh e x g)).1) xs (distinct_nil bytes_eq) good;
+    distinct = each_distinct Good bytes_eq name [] (λ e x g. not-true (list_any (λ m. bytes_eq m (name x)) (map name e)) (and_parts (is_name (name x)) (not (list_any (λ m. bytes_eq m (name x)) (map name e))) (fresh e x g)).1) xs (none_distinct bytes_eq) good;
   }
 
 pub here_fresh : {X : Type 0} (name : X → List ℕ) (xs e : List X) (x : X) (l : List X) → e ++ x ∷ l ≡ xs → AreNames (map name xs) → is_fresh (map name e) (name x) ≡ true

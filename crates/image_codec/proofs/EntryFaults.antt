@@ -7,10 +7,11 @@ use Rattle.oil_system.specs.{declared.objects.{Alarm.{Alarm}, Resource.{Resource
 use Rattle.osek_standard.specs.{declared.objects.{Task.{Task}, Isr.{Isr}, Counter.{Counter}}, Validity.{no_counter, owners}}
 use Rattle.image_model.specs.declared.image.Version.{Version}
 use Rattle.image_model.specs.declared.image.Version.TheVariants as version
-use Rattle.image_codec.specs.{declared.{fault.ImageRule.TheVariants.{I3, I5}, parts.{Header.{Header}, Range.{Range}}}, Laws.{HeaderFaults, EntryFaults}}
-use Rattle.image_codec.specs.Reading.{Read, ◌>>=◌, further_byte_at, further_16_at, name_at, number_at, tested_byte_at, tested_at, byte_below_at, modes_at, range_at}
-use Rattle.image_codec.specs.TableReading.{version_at, header_at, is_priority, is_activation, is_internal_number, property_at, schedule_of, schedule_at, task_at, isr_at, counter_at, is_action_mask, action_of, action_at, is_start_time}
-use Rattle.image_codec.specs.TableReading.{is_start_cycle, alarm_at, resource_at, task_with, is_isr_priority, isr_with, is_interrupt_ceiling, resource_with}
+use Rattle.image_fields.specs.declared.{fault.ImageRule.TheVariants.{I3, I5}, parts.{Header.{Header}, Range.{Range}}}
+use Rattle.image_codec.specs.Laws.{HeaderFaults, EntryFaults}
+use Rattle.image_fields.specs.Reading.{Read, ◌>>=◌, further_byte_at, further_16_at, name_at, number_at, tested_byte_at, tested_at, byte_below_at, modes_at, range_at}
+use Rattle.image_fields.specs.TableReading.{version_at, header_at, is_priority, is_activation, is_internal_number, property_at, schedule_of, schedule_at, task_at, isr_at, counter_at, is_action_mask, action_of, action_at, is_start_time}
+use Rattle.image_fields.specs.TableReading.{is_start_cycle, alarm_at, resource_at, task_with, is_isr_priority, isr_with, is_interrupt_ceiling, resource_with}
 use Rattle.image_codec.specs.FieldTable.{fault_of, Field, field, any, some, below, at_most, first_broken, behind, magic_field, further_field, name_field}
 use Rattle.image_codec.specs.FieldTable.{header_fields, range_fields, modes_field, priority_field, activation_field, internal_field, property_field, task_start, task_fields, isr_head, isr_fields, counter_fields, action_fields, start_fields}
 use Rattle.image_codec.specs.FieldTable.{alarm_fields, resource_fields}

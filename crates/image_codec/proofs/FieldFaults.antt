@@ -4,11 +4,12 @@ use Rattle.std.specs.{Prelude.{⊤, nat_lt, ◌==◌, slice_get}, Int.{Width, w8
 use Rattle.std.proofs.lemmas.{Bool.{cases_lt, lt-ltb, le-ltb}, Option.{slice_get_cases, get_or_from_slice_get}}
 use Rattle.osek_values.specs.{Names.{is_name}, Numbers.{block_no}}
 use Rattle.osek_standard.specs.{Validity.{meet}, declared.objects.Task.{Task}}
-use Rattle.image_codec.specs.{declared.{fault.{ImageRule.{ImageRule, TheVariants.{I1, I2, I3, I4, I5}}, Fault.{Fault}}, parts.Range.{Range}}, Spelling.{magic}}
+use Rattle.image_fields.specs.declared.{fault.{ImageRule.{ImageRule, TheVariants.{I1, I2, I3, I4, I5}}, Fault.{Fault}}, parts.Range.{Range}}
+use Rattle.image_fields.specs.Magic.{magic}
 use Rattle.image_model.specs.declared.image.Version.{Version}
 use Rattle.image_model.specs.declared.image.Version.TheVariants as version
-use Rattle.image_codec.specs.TableReading.{version_of, version_at, is_property, property_at}
-use Rattle.image_codec.specs.Reading.{Read, ◌>>=◌, fault_at, kept, found_at, further_byte_at, further_16_at, text_at, name_at, byte_at, byte_below_at, flag_at, number_at, tested_byte_at, tested_at, count_at, range_at}
+use Rattle.image_fields.specs.TableReading.{version_of, version_at, is_property, property_at}
+use Rattle.image_fields.specs.Reading.{Read, ◌>>=◌, fault_at, kept, found_at, further_byte_at, further_16_at, text_at, name_at, byte_at, byte_below_at, flag_at, number_at, tested_byte_at, tested_at, count_at, range_at}
 use Rattle.image_codec.specs.FieldTable.{fault_of, Field, field, any, some, below, at_most, none_of, broken_at, or_later, first_broken, behind, front, magic_field, further_field, property_field, is_name_len, name_broken, name_field, first_field, count_field, range_fields, or_else}
 
 -- reading gives this fault, or a value that is so, and leaves the rest

@@ -6,19 +6,18 @@ use Rattle.std.proofs.lemmas.List.{take_at, drop_at, take-append-drop, length-ap
 use Rattle.osek_values.specs.{Names.{is_word, is_name}, Numbers.{block_no}}
 use Rattle.oil_system.specs.declared.objects.Schedule.{Schedule, TheVariants.{Non, Full}}
 use Rattle.osek_standard.specs.Validity.{meet}
-use Rattle.image_codec.specs.declared.{fault.ImageRule.TheVariants.{I1, I3, I4, I5}, parts.Range.{Range}}
+use Rattle.image_fields.specs.declared.{fault.ImageRule.TheVariants.{I1, I3, I4, I5}, parts.Range.{Range}}
 use Rattle.image_codec.specs.Spelling.{one, two, name_bytes, range_bytes, schedule_number, flag_number}
-use Rattle.image_codec.specs.Reading.{Read, ◌>>=◌, kept, tested_byte_at, tested_at, byte_below_at, text_at, name_at, count_at, range_at, flag_at}
-use Rattle.image_codec.specs.TableReading.{schedule_of, schedule_at}
-use Rattle.image_codec.proofs.Spells.{AreBytes-drop, bind_ok, kept_ok, kept_again, enough_ok, Takes, Takes-then, Spells, nothing_more, and_then, said, wide16, Tested, tested_law, tested_byte_law, tested_number_law}
+use Rattle.image_fields.specs.Reading.{Read, ◌>>=◌, kept, tested_byte_at, tested_at, byte_below_at, text_at, name_at, count_at, range_at, flag_at}
+use Rattle.image_fields.specs.TableReading.{schedule_of, schedule_at}
+use Rattle.image_fields.proofs.NameReading.{is_fresh}
+use Rattle.image_codec.proofs.Spells.{AreBytes-drop, Takes, Takes-then, Spells, nothing_more, and_then, said, wide16, Tested, tested_law, tested_byte_law, tested_number_law}
+use Rattle.image_fields.proofs.Steps.{bind_ok, kept_ok, kept_again, enough_ok}
 
 pub bytes_eq_is : (xs ys : List ℕ) → bytes_eq xs ys ≡ true → xs ≡ ys
 bytes_eq_is xs ys e = (bytes_eq-Decides xs ys).0 e
 
 -- ---- names
-
-abbrev pub is_fresh : List (List ℕ) → List ℕ → Bool
-is_fresh earlier n = is_name n && not (list_any (λ m. bytes_eq m n) earlier)
 
 abbrev is_name_len : ℕ → Bool
 is_name_len n = nat_lt 0 n && nat_le n 64

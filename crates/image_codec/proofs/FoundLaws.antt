@@ -1,7 +1,8 @@
 -- Reading a field, and what stands for it.
 use Rattle.std.proofs.{Common.{◌≡◌, ◌⊎◌, ℕ, Bool, true, false, cond, List, ◌++◌, Option, Some, None, Ok, refl, sym, ap, subst, ◌∙◌, inl, inr}, lemmas.Option.{same_Some}}
-use Rattle.image_codec.specs.{declared.fault.ImageRule.{ImageRule}, Reading.{Read, ◌>>=◌, found_at}}
-use Rattle.image_codec.proofs.Spells.{bind_ok, ok_is, Takes, Spells}
+use Rattle.image_fields.specs.{declared.fault.ImageRule.{ImageRule}, Reading.{Read, ◌>>=◌, found_at}}
+use Rattle.image_fields.proofs.Steps.{bind_ok, ok_is}
+use Rattle.image_codec.proofs.Spells.{Takes, Spells}
 
 pub first_choice : {A : Type 0} (test : Bool) (x : A) (o : Option A) (y : A) → cond test (Some x) o ≡ Some y → ((test ≡ true) × (x ≡ y)) ⊎ (o ≡ Some y)
 first_choice true x o y e = inl (refl, same_Some x y e)

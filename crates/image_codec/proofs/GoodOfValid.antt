@@ -6,6 +6,7 @@ use Rattle.std.proofs.lemmas.List.{append-nil, length-append, Elements.{All-get_
 use Rattle.std.proofs.Math.Seq.{get_or-append_seam}
 use Rattle.std.specs.{Prelude.{slice_index_or, nat_eq, not, All, IsTrue}, List.{list_any, list_all, zip, IsDistinct}}
 use Rattle.osek_values.specs.{Names.{AreNames}, Numbers.{res_no}, declared.numbers.ResNo.{ResNo}}
+use Rattle.osek_values.proofs.Lists.{any_of_map}
 use Rattle.oil_system.specs.declared.objects.{Alarm.{Alarm}, Resource.{Resource}, Action.{Action}}
 use Rattle.oil_system.specs.declared.objects.Action.TheVariants as action
 use Rattle.osek_standard.specs.declared.{objects.{Task.{Task}, Isr.{Isr}, Counter.{Counter}}, app.App.{App}}
@@ -14,15 +15,19 @@ use Rattle.osek_standard.specs.{Tables.{Tables as AppTables}, Versions.{NamesNon
 use Rattle.osek_standard.specs.Apps.{tables, is_site_in}
 use Rattle.image_model.specs.{declared.{site.Site.{Site}, image.{Image.{Image}, Version.{Version}}}, Sites.{IsSiteAt}, Versions.{FitsAlone, FitsVersion1Alone}}
 use Rattle.image_model.specs.declared.image.Version.TheVariants as version
-use Rattle.image_codec.specs.{declared.{parts.{Header.{Header}, Range.{Range}, Tables.{Tables}, Parts.{Parts}}, fault.Fault.{Fault}}, Spelling.{spelling, internal_number}}
-use Rattle.image_codec.specs.TableReading.{is_priority, is_activation, is_internal_number, internal_of, is_other, is_property, is_isr_priority, is_interrupt_ceiling}
-use Rattle.image_codec.specs.{Fits.{FitsTask, FitsAction, FitsBlock, FitsFormat}, BlockReading.{parts_at, all_at}, ImageReading.{parts_of}, Laws.{OneSpelling}}
-use Rattle.image_codec.proofs.{Spells.{done_with, ok_is}, FieldLaws.{is_fresh, GoodRange}}
+use Rattle.image_fields.specs.declared.{parts.{Header.{Header}, Range.{Range}, Tables.{Tables}}, fault.Fault.{Fault}}
+use Rattle.image_codec.specs.{declared.parts.Parts.{Parts}, Spelling.{spelling, internal_number}}
+use Rattle.image_fields.specs.TableReading.{is_priority, is_activation, is_internal_number, internal_of, is_other, is_property, is_isr_priority, is_interrupt_ceiling}
+use Rattle.image_codec.specs.{Fits.{FitsTask, FitsAction, FitsBlock, FitsFormat}, ImageReading.{parts_at, all_at, parts_of}, Laws.{OneSpelling}}
+use Rattle.image_fields.proofs.{Steps.{done_with, ok_is}, NameReading.{is_fresh}}
+use Rattle.image_codec.proofs.FieldLaws.{GoodRange}
 use Rattle.image_codec.proofs.TableLaws.{GoodTask, GoodIsr, GoodCounter, GoodAction, GoodAlarm, GoodResource, GoodMode, GoodTables, range_of, isr_range_of, counter_range_of}
 use Rattle.image_codec.proofs.VersionLaws.{IsFurther, IsFurther16, IsProperty}
 use Rattle.image_codec.proofs.{BlockLaws.{Entry, GoodBlock}, PartsLaws.{header_of, parts_law, GoodHeader, GoodParts, spelling_is, all_again}}
-use Rattle.image_codec.proofs.{EachLaws.{each_of, here_of_all, here_distinct, here_fresh}, OwnerTests.{any_of_map, map_same}, WholeTables.{tables_of_parts}, Places.{get_or-zip}}
-use Rattle.image_codec.proofs.{BlockLoop.{length-zip}, BlocksOfValid.{good_blank, good_filled, good_leads, FitsSite, good_site, says_its_own}, DecodeLaws.{image_ext}}
+use Rattle.image_codec.proofs.{EachLaws.{each_of, here_of_all, here_distinct, here_fresh}, WholeTables.{tables_of_parts}, Places.{get_or-zip}}
+use Rattle.image_fields.proofs.OwnerTests.{map_same}
+use Rattle.image_fields.proofs.BlockLoop.{length-zip}
+use Rattle.image_codec.proofs.{BlocksOfValid.{good_blank, good_filled, good_leads, FitsSite, good_site, says_its_own}, DecodeLaws.{image_ext}}
 
 modes_fit : (m : ℕ) → m ≤ 8 → 2 ^ m ≤ 256
 modes_fit zero le = omega arith

@@ -8,10 +8,12 @@ use Rattle.osek_standard.specs.declared.block.Kind.{Kind}
 use Rattle.osek_standard.specs.declared.block.Kind.TheVariants as kind
 use Rattle.image_model.specs.CallNames as call
 use Rattle.image_model.specs.declared.image.Version.{Version}
-use Rattle.image_codec.specs.{declared.{fault.ImageRule.TheVariants.{I3, I5}, parts.Tables.{Tables}}, Spelling.{one, two, eight, kind_number, lock_number, operand_bytes}}
-use Rattle.image_codec.specs.Reading.{AreBytes, Read, ◌>>=◌, byte_at, byte_below_at, number_at, tested_at}
-use Rattle.image_codec.specs.BlockReading.{blank_kinds, is_allowed, is_takable, is_due, judged_at, kind_at, task_no_at, takable_at, alarm_no_at, events_at, locks, lock_of, lock_at, due_at, operands_at}
-use Rattle.image_codec.proofs.Spells.{bind_ok, kept_ok, kept_again, ok_is, Takes, Spells, nothing_more, and_then, wide16, wide64, number_law, byte_takes, Tested, tested_law, tested_byte_law, tested_number_law}
+use Rattle.image_fields.specs.declared.{fault.ImageRule.TheVariants.{I3, I5}, parts.Tables.{Tables}}
+use Rattle.image_codec.specs.Spelling.{one, two, eight, kind_number, lock_number, operand_bytes}
+use Rattle.image_fields.specs.Reading.{AreBytes, Read, ◌>>=◌, byte_at, byte_below_at, number_at, tested_at}
+use Rattle.image_fields.specs.BlockReading.{blank_kinds, is_allowed, is_takable, is_due, judged_at, kind_at, task_no_at, takable_at, alarm_no_at, events_at, locks, lock_of, lock_at, due_at, operands_at}
+use Rattle.image_fields.proofs.Steps.{bind_ok, kept_ok, kept_again, ok_is}
+use Rattle.image_codec.proofs.Spells.{Takes, Spells, nothing_more, and_then, wide16, wide64, number_law, byte_takes, Tested, tested_law, tested_byte_law, tested_number_law}
 
 -- ---- the kind
 

@@ -1,10 +1,8 @@
 pub mod BlockFaults
 pub mod BlockLaws
-pub mod BlockLoop
 pub mod BlocksOfGood
 pub mod BlocksOfValid
 pub mod DecodeLaws
-pub mod Due
 pub mod EachLaws
 pub mod EntryFaults
 pub mod FieldFaults
@@ -12,9 +10,6 @@ pub mod FieldLaws
 pub mod FoundLaws
 pub mod GoodOfValid
 pub mod KindLaws
-pub mod Loop
-pub mod NameReading
-pub mod OwnerTests
 pub mod PartsLaws
 pub mod Places
 pub mod SiteLaws

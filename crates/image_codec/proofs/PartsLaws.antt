@@ -4,16 +4,21 @@ use Rattle.std.specs.{Prelude.{nat_lt, nat_le}, Int.{w16}, List.{flat_map, zip}}
 use Rattle.std.proofs.lemmas.{Bool.{eqb-true}, List.{append-nil, nil_from_length, length-map}}
 use Rattle.osek_values.specs.{declared.hooks.HookSet.{HookSet}, Hooks.{hook_set}}
 use Rattle.osek_standard.specs.declared.block.Block.{Block}
-use Rattle.image_codec.specs.declared.fault.ImageRule.TheVariants.{I3, I6}
+use Rattle.image_fields.specs.declared.fault.ImageRule.TheVariants.{I3, I6}
 use Rattle.image_model.specs.declared.site.Site.{Site}
-use Rattle.image_codec.specs.declared.parts.{Header.{Header}, Tables.{Tables}, Parts.{Parts}}
+use Rattle.image_fields.specs.declared.parts.{Header.{Header}, Tables.{Tables}}
+use Rattle.image_codec.specs.declared.parts.Parts.{Parts}
 use Rattle.image_model.specs.declared.image.{Image.{Image}, Version.{Version}}
-use Rattle.image_codec.specs.Spelling.{one, two, magic, block_bytes, spelling, task_bytes, isr_bytes, counter_bytes, alarm_bytes, resource_bytes, name_bytes}
-use Rattle.image_codec.specs.{Reading.{AreBytes, Read, ◌>>=◌, kept, byte_below_at, tested_byte_at, tested_at}, TableReading.{version_at, header_at, tables_at}}
-use Rattle.image_codec.specs.{BlockReading.{blocks_at, parts_at, all_at}, ImageReading.{parts_of}}
-use Rattle.image_codec.proofs.Spells.{bind_ok, kept_ok, Spells, nothing_more, and_then, and_then_by, said, wide16, Tested, tested_byte_law, tested_number_law, GoodEntries, entries_law}
+use Rattle.image_codec.specs.Spelling.{one, two, block_bytes, spelling, task_bytes, isr_bytes, counter_bytes, alarm_bytes, resource_bytes, name_bytes}
+use Rattle.image_fields.specs.Magic.{magic}
+use Rattle.image_fields.specs.Reading.{AreBytes, Read, ◌>>=◌, kept, byte_below_at, tested_byte_at, tested_at}
+use Rattle.image_fields.specs.TableReading.{version_at, header_at, tables_at}
+use Rattle.image_fields.specs.BlockReading.{blocks_at}
+use Rattle.image_codec.specs.ImageReading.{parts_at, all_at, parts_of}
+use Rattle.image_fields.proofs.Steps.{bind_ok, kept_ok}
+use Rattle.image_codec.proofs.Spells.{Spells, nothing_more, and_then, and_then_by, said, wide16, Tested, tested_byte_law, tested_number_law, GoodEntries, entries_law}
 use Rattle.image_codec.proofs.{VersionLaws.{version_law}, TableLaws.{GoodTables, tables_bytes, tables_law}, BlockLaws.{Entry, GoodBlock, block_law}}
-use Rattle.image_codec.proofs.BlockLoop.{read_block, zip_firsts, zip_seconds}
+use Rattle.image_fields.proofs.BlockLoop.{read_block, zip_firsts, zip_seconds}
 
 abbrev is_below : ℕ → ℕ → Bool
 is_below limit n = nat_lt n limit

@@ -3,7 +3,7 @@ use Rattle.std.proofs.Common.{◌≡◌, ℕ, zero, suc, ◌+◌, ◌<◌, Bool,
 use Rattle.std.specs.List.{list_all, zip, enumerate_from}
 use Rattle.std.proofs.lemmas.{Bool.{and_parts, and_from, le-leb, lt-ltb, leb-true, ltb-true}, List.{length_push}}
 use Rattle.osek_standard.specs.Validity.{IsAmong, is_within}
-use Rattle.image_codec.specs.BlockReading.{where_has}
+use Rattle.image_fields.specs.BlockReading.{where_has}
 use Rattle.image_codec.proofs.Spells.{Each}
 
 module _ {X : Type 0} (G : ℕ → X → Type 0) where

@@ -10,9 +10,13 @@ use Rattle.image_model.specs.declared.site.Form.TheVariants as form
 use Rattle.image_model.specs.declared.site.Known.TheVariants as known
 use Rattle.image_model.specs.declared.image.Version.{Version}
 use Rattle.image_model.specs.declared.image.Version.TheVariants as version
-use Rattle.image_codec.specs.{declared.{fault.ImageRule.TheVariants.{I3}, parts.Tables.{Tables}}, Spelling.{one, two, further, form_number, known_number, site_bytes}}
-use Rattle.image_codec.specs.{Reading.{AreBytes, Read, ◌>>=◌, byte_at, number_at}, BlockReading.{direct_form, form_of, form_at, knowns, known_of, known_at, stated_at, site_at}}
-use Rattle.image_codec.proofs.{Spells.{bind_ok, ok_is, joined2, Takes, Spells, nothing_more, and_then, said, wide16, number_law, byte_law}, FoundLaws.{first_choice, found_law}}
+use Rattle.image_fields.specs.declared.{fault.ImageRule.TheVariants.{I3}, parts.Tables.{Tables}}
+use Rattle.image_codec.specs.Spelling.{one, two, further, form_number, known_number, site_bytes}
+use Rattle.image_fields.specs.Reading.{AreBytes, Read, ◌>>=◌, byte_at, number_at}
+use Rattle.image_fields.specs.BlockReading.{direct_form, form_of, form_at, knowns, known_of, known_at, stated_at, site_at}
+use Rattle.image_fields.proofs.Steps.{bind_ok, ok_is}
+use Rattle.image_codec.proofs.Spells.{joined2, Takes, Spells, nothing_more, and_then, said, wide16, number_law, byte_law}
+use Rattle.image_codec.proofs.FoundLaws.{first_choice, found_law}
 use Rattle.image_codec.proofs.KindLaws.{listed}
 
 -- ---- forms

@@ -2,7 +2,8 @@
 use Rattle.std.proofs.Common.{◌≡◌, ℕ, ◌-◌, ◌⊎◌, inl, inr, List, length, refl, Ok, Err}
 use Rattle.image_codec.specs.declared.fault.ImageFault.{ImageFault}
 use Rattle.image_model.specs.declared.image.Image.{Image}
-use Rattle.image_codec.specs.{declared.parts.Parts.{Parts}, Fits.{FitsFormat}, Laws.{SpellOrFail, SpellingIsRead}, Reading.{AreBytes, Read}, BlockReading.{all_at}}
+use Rattle.image_codec.specs.{declared.parts.Parts.{Parts}, Fits.{FitsFormat}, Laws.{SpellOrFail, SpellingIsRead}, ImageReading.{all_at}}
+use Rattle.image_fields.specs.Reading.{AreBytes, Read}
 use Rattle.image_codec.specs.{ImageReading.{read_image}, Spelling.{spelling}}
 use Rattle.image_codec.proofs.{DecodeLaws.{image_of, its_spelling, its_reading, its_fault}, GoodOfValid.{read_again}, PartsLaws.{GoodParts, all_takes}}
 use Rattle.image_codec.proofs.ValidOfGood.{valid_parts, alone_parts, fits_parts, sites_parts}

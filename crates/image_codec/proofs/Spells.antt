@@ -1,12 +1,14 @@
 -- A reader and a spelling that belong together: what is read is spelled so, and what is spelled so is read, whatever
 -- follows. Records are built from their fields.
-use Rattle.std.proofs.Common.{◌≡◌, ℕ, zero, suc, ◌+◌, ◌^◌, ◌<◌, ◌≤◌, Bool, true, false, cond, ltb, List, [], ◌∷◌, ◌++◌, length, take, drop, Result, Ok, Err, refl, sym, ap, subst, ◌∙◌, append_assoc, arith, inl, inr}
+use Rattle.std.proofs.Common.{◌≡◌, ℕ, zero, suc, ◌+◌, ◌^◌, ◌<◌, ◌≤◌, Bool, true, false, ltb, List, [], ◌∷◌, ◌++◌, length, take, drop, Ok, refl, sym, ap, subst, ◌∙◌, append_assoc, arith, inl, inr}
 use Rattle.std.specs.{Int.{Width, w16, w32, w64, byte_len, from_be_bytes, to_be_bytes}, List.{flat_map}}
 use Rattle.std.proofs.lemmas.Bool.{cases_lt, ltb-false, le-ltb}
 use Rattle.std.proofs.lemmas.List.{append-nil, take_at, drop_at, take-append-drop, length-append, length-take, get_or-drop, get_or-take, get_or_past}
 use Rattle.std.proofs.lemmas.Nat.{be_bytes_2, be_bytes_4, be_bytes_8, from_be_bytes-to_be_bytes_2, from_be_bytes-to_be_bytes_4, from_be_bytes-to_be_bytes_8}
-use Rattle.image_codec.specs.{declared.fault.{ImageRule.{ImageRule, TheVariants.{I1}}, Fault.{Fault}}, Spelling.{one}}
-use Rattle.image_codec.specs.Reading.{AreBytes, Read, ◌>>=◌, fault_at, kept, byte_at, number_at, tested_byte_at, tested_at, entries_at}
+use Rattle.image_fields.specs.declared.fault.ImageRule.{ImageRule, TheVariants.{I1}}
+use Rattle.image_codec.specs.Spelling.{one}
+use Rattle.image_fields.proofs.Steps.{bind_ok, kept_ok, kept_again, enough_ok, done_with, ok_is}
+use Rattle.image_fields.specs.Reading.{AreBytes, Read, ◌>>=◌, fault_at, kept, byte_at, number_at, tested_byte_at, tested_at, entries_at}
 
 pub AreBytes-drop : (n : ℕ) (bytes : List ℕ) → AreBytes bytes → AreBytes (drop n bytes)
 AreBytes-drop n bytes h i = rw get_or-drop (h (n + i))
@@ -20,30 +22,6 @@ AreBytes-take n bytes h i =
 
 pub AreBytes-rest : (b : ℕ) (bytes : List ℕ) → AreBytes (b ∷ bytes) → AreBytes bytes
 AreBytes-rest b bytes h i = h (suc i)
-
--- the value of a step that did not fail
-pub bind_ok : {A B : Type 0} (r : Result A Fault) (f : A → Result B Fault) (y : B) → (r >>= f) ≡ Ok y → (x : A) × (r ≡ Ok x) × (f x ≡ Ok y)
-bind_ok (Ok x) f y e = (x, refl, e)
-bind_ok (Err d) f y e = absurd cc
-
--- a test that did not fail
-pub kept_ok : {A : Type 0} (test : Bool) (rule : ImageRule) (bytes : List ℕ) (x y : A × List ℕ) → kept test rule bytes x ≡ Ok y → (test ≡ true) × (x ≡ y)
-kept_ok true rule bytes x y e = (refl, cc)
-kept_ok false rule bytes x y e = absurd cc
-
-pub kept_again : {A : Type 0} (test : Bool) (rule : ImageRule) (bytes : List ℕ) (x : A × List ℕ) → test ≡ true → kept test rule bytes x ≡ Ok x
-kept_again true rule bytes x e = refl
-kept_again false rule bytes x e = absurd cc
-
-pub enough_ok : {A : Type 0} (short : Bool) (d : Fault) (x y : A) → cond short (Err d) (Ok x) ≡ Ok y → (short ≡ false) × (x ≡ y)
-enough_ok true d x y e = absurd cc
-enough_ok false d x y e = (refl, cc)
-
-abbrev pub done_with : {A : Type 0} → A → Result A Fault
-done_with x = Ok x
-
-pub ok_is : {A : Type 0} (x y : A) → done_with x ≡ done_with y → x ≡ y
-ok_is x y e = cc
 
 -- what a reader took from the front
 pub record Takes (bytes text rest : List ℕ) : Type 0 where

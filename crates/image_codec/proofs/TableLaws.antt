@@ -7,16 +7,17 @@ use Rattle.oil_system.specs.declared.objects.{Alarm.{Alarm}, Resource.{Resource}
 use Rattle.oil_system.specs.declared.objects.Action.TheVariants as action
 use Rattle.osek_standard.specs.{declared.objects.{Task.{Task}, Isr.{Isr}, Counter.{Counter}}, Validity.{no_counter, owners}}
 use Rattle.image_model.specs.declared.image.Version.{Version}
-use Rattle.image_codec.specs.declared.{fault.ImageRule.TheVariants.{I3, I5}, parts.{Header.{Header}, Range.{Range}, Tables.{Tables}}}
+use Rattle.image_fields.specs.declared.{fault.ImageRule.TheVariants.{I3, I5}, parts.{Header.{Header}, Range.{Range}, Tables.{Tables}}}
 use Rattle.image_codec.specs.Spelling.{one, two, four, eight, further, name_bytes, range_bytes, schedule_number, flag_number, internal_number, task_bytes, isr_bytes, counter_bytes, action_bytes, alarm_bytes}
 use Rattle.image_codec.specs.Spelling.{resource_bytes}
-use Rattle.image_codec.specs.Reading.{number_at, tested_at, byte_below_at, further_byte_at, further_16_at, name_at, modes_at, range_at, entries_at}
-use Rattle.image_codec.specs.TableReading.{is_priority, is_activation, is_internal_number, internal_of, property_at, schedule_at, task_at, isr_at, counter_at, is_action_mask, action_of, action_at, is_start_time, is_start_cycle, alarm_at, resource_at}
-use Rattle.image_codec.specs.TableReading.{tables_at, task_with, is_isr_priority, isr_with, is_interrupt_ceiling, resource_with}
+use Rattle.image_fields.specs.Reading.{number_at, tested_at, byte_below_at, further_byte_at, further_16_at, name_at, modes_at, range_at, entries_at}
+use Rattle.image_fields.specs.TableReading.{is_priority, is_activation, is_internal_number, internal_of, property_at, schedule_at, task_at, isr_at, counter_at, is_action_mask, action_of, action_at, is_start_time, is_start_cycle, alarm_at, resource_at}
+use Rattle.image_fields.specs.TableReading.{tables_at, task_with, is_isr_priority, isr_with, is_interrupt_ceiling, resource_with}
 use Rattle.image_codec.proofs.VersionLaws.{IsFurther, further_byte_law, IsFurther16, further_16_law, IsProperty, property_law}
 use Rattle.image_codec.proofs.Spells.{joined3, joined4, joined6, joined8, Spells, nothing_more, and_then, said, wide16, wide32, wide64, number_law, Tested, tested_byte_law}
 use Rattle.image_codec.proofs.Spells.{tested_number_law, GoodEntries, entries_law}
-use Rattle.image_codec.proofs.FieldLaws.{is_fresh, name_law, GoodRange, range_law, schedule_law}
+use Rattle.image_fields.proofs.NameReading.{is_fresh}
+use Rattle.image_codec.proofs.FieldLaws.{name_law, GoodRange, range_law, schedule_law}
 
 abbrev is_below : ℕ → ℕ → Bool
 is_below limit n = nat_lt n limit

@@ -6,6 +6,7 @@ use Rattle.std.specs.{Prelude.{slice_index_or, nat_eq, IsTrue}, List.{list_any, 
 use Rattle.osek_values.specs.{Names.{AreNames}, Numbers.{res_no}, declared.numbers.ResNo.{ResNo}}
 use Rattle.oil_system.specs.declared.objects.{Alarm.{Alarm}, Resource.{Resource}, Action.{Action}}
 use Rattle.oil_system.specs.declared.objects.Action.TheVariants as action
+use Rattle.osek_values.proofs.Lists.{any_of_map, none_distinct}
 use Rattle.osek_standard.specs.declared.{objects.{Task.{Task}, Isr.{Isr}, Counter.{Counter}}, block.{Block.{Block}, Kind.{Kind}}, app.App.{App}}
 use Rattle.osek_standard.specs.Validity.{no_block, no_counter, no_resource, meet, owners, is_cycle_of, is_internal, IsAction, IsAlarmOf, IsValid, IsInternal}
 use Rattle.osek_standard.specs.{Versions.{FitsVersion1, NamesNone}, Apps.{tables, is_site, is_site_in}}
@@ -16,13 +17,19 @@ use Rattle.image_model.specs.CallNames as call
 use Rattle.image_model.specs.declared.site.Form.TheVariants as form
 use Rattle.image_model.specs.declared.site.Known.TheVariants as known
 use Rattle.image_model.specs.declared.image.Version.TheVariants as version
-use Rattle.image_codec.specs.{declared.parts.{Header.{Header}, Tables.{Tables}, Parts.{Parts}}, Spelling.{form_number, internal_number}, Fits.{FitsTask, FitsAction, FitsKind, FitsParts}}
-use Rattle.image_codec.specs.{BlockReading.{form_of}, TableReading.{is_priority, is_activation, is_internal_number, internal_of, is_other, is_isr_priority, is_interrupt_ceiling}}
-use Rattle.image_codec.proofs.{FieldLaws.{is_fresh, is_inside}, TableLaws.{GoodTask, GoodIsr, GoodCounter, GoodAction, GoodAlarm, GoodResource, GoodMode}, KindLaws.{GoodOperands}}
+use Rattle.image_fields.specs.declared.parts.{Header.{Header}, Tables.{Tables}}
+use Rattle.image_codec.specs.{declared.parts.Parts.{Parts}, Spelling.{form_number, internal_number}, Fits.{FitsTask, FitsAction, FitsKind, FitsParts}}
+use Rattle.image_fields.specs.BlockReading.{form_of}
+use Rattle.image_fields.specs.TableReading.{is_priority, is_activation, is_internal_number, internal_of, is_other, is_isr_priority, is_interrupt_ceiling}
+use Rattle.image_fields.proofs.NameReading.{is_fresh}
+use Rattle.image_codec.proofs.{FieldLaws.{is_inside}, TableLaws.{GoodTask, GoodIsr, GoodCounter, GoodAction, GoodAlarm, GoodResource, GoodMode}}
+use Rattle.image_codec.proofs.KindLaws.{GoodOperands}
 use Rattle.image_codec.proofs.VersionLaws.{IsFurther, IsFurther16, IsProperty}
 use Rattle.image_codec.proofs.{FoundLaws.{first_choice}, SiteLaws.{GoodSite}, BlockLaws.{unwayed, GoodBlock}, PartsLaws.{header_of, GoodParts}}
-use Rattle.image_codec.proofs.{EachLaws.{each_all, each_distinct, each_named, each_weaker, distinct_nil}, OwnerTests.{any_of_map, map_same}, WholeTables.{tables_of_parts}}
-use Rattle.image_codec.proofs.{Places.{each_at, get_or-zip}, BlockLoop.{length-zip}}
+use Rattle.image_codec.proofs.{EachLaws.{each_all, each_distinct, each_named, each_weaker}, WholeTables.{tables_of_parts}}
+use Rattle.image_fields.proofs.OwnerTests.{map_same}
+use Rattle.image_codec.proofs.Places.{each_at, get_or-zip}
+use Rattle.image_fields.proofs.BlockLoop.{length-zip}
 use Rattle.image_codec.proofs.BlocksOfGood.{block_owned, task_owner, task_code, isr_owner, isr_code, isr_takes_none, counter_owner, tick_code}
 
 -- ---- forms
@@ -195,7 +202,7 @@ module _ (p : Parts) (good : GoodParts p) where
       let earlier = map (λ (y : Task). (y.first.0, y.count)) e in
       let same : owners e [] [] ≡ earlier = append-nil (earlier ++ []) ∙ append-nil earlier in
       ap (list_any (λ o. meet o (x.first.0, x.count))) (sym same) ∙ not-true _ g.code.apart)
-      t.tasks (distinct_nil meet) good.tables.tasks.1
+      t.tasks (none_distinct meet) good.tables.tasks.1
 
   apart_i : IsDistinct meet (ranges_t ++ ranges_i)
   apart_i = each_distinct (GoodIsr n t.tasks) meet (λ (x : Isr). (x.first.0, x.count)) ranges_t
@@ -282,7 +289,7 @@ module _ (p : Parts) (good : GoodParts p) where
   version_1_parts : p.version ≡ version.One → FitsVersion1 (tables_of_parts p)
   version_1_parts one = record {
     priorities = each_distinct (GoodTask n) nat_eq (λ (x : Task). x.priority) []
-        (λ e x g. any_of_map (λ k. nat_eq k x.priority) (λ (y : Task). y.priority) e ∙ not-true _ (subst (λ (v : Version). is_priority v e x.priority ≡ true) one g.priority)) t.tasks (distinct_nil nat_eq) good.tables.tasks.1;
+        (λ e x g. any_of_map (λ k. nat_eq k x.priority) (λ (y : Task). y.priority) e ∙ not-true _ (subst (λ (v : Version). is_priority v e x.priority ≡ true) one g.priority)) t.tasks (none_distinct nat_eq) good.tables.tasks.1;
     activations = each_all (GoodTask n) (λ (x : Task). x.activation ≡ 1) (λ e x g. subst (λ (v : Version). IsFurther v 1 (is_activation x.own.0) x.activation) one g.activation) t.tasks good.tables.tasks.1;
     properties = each_all (GoodResource n.version t.tasks) (λ (x : Resource). IsTrue (not x.internal))
         (λ e x g. ap not (subst (λ (v : Version). IsProperty v t.tasks (length e) x.internal) one g.property)) t.resources good.tables.resources.1;

@@ -5,9 +5,13 @@ use Rattle.std.proofs.lemmas.{Bool.{ltb-false, le-ltb}, List.{take_at, drop_at, 
 use Rattle.osek_standard.specs.declared.objects.Task.{Task}
 use Rattle.image_model.specs.declared.image.Version.{Version}
 use Rattle.image_model.specs.declared.image.Version.TheVariants as version
-use Rattle.image_codec.specs.{declared.fault.ImageRule.TheVariants.{I1, I2, I3, I5}, Spelling.{one, two, magic, further, flag_number}}
-use Rattle.image_codec.specs.{Reading.{Read, fault_at, text_at, flag_at, further_byte_at, further_16_at}, TableReading.{version_of, version_at, is_property, property_at}}
-use Rattle.image_codec.proofs.{Spells.{AreBytes-drop, enough_ok, Takes, Spells, nothing_more, wide16, Tested, tested_law, tested_byte_law, tested_number_law}, FieldLaws.{bytes_eq_is, flag_law}}
+use Rattle.image_fields.specs.{declared.fault.ImageRule.TheVariants.{I1, I2, I3, I5}, Magic.{magic}}
+use Rattle.image_codec.specs.Spelling.{one, two, further, flag_number}
+use Rattle.image_fields.specs.Reading.{Read, fault_at, text_at, flag_at, further_byte_at, further_16_at}
+use Rattle.image_fields.specs.TableReading.{version_of, version_at, is_property, property_at}
+use Rattle.image_codec.proofs.Spells.{AreBytes-drop, Takes, Spells, nothing_more, wide16, Tested, tested_law, tested_byte_law, tested_number_law}
+use Rattle.image_codec.proofs.FieldLaws.{bytes_eq_is, flag_law}
+use Rattle.image_fields.proofs.Steps.{enough_ok}
 use Rattle.image_codec.proofs.FoundLaws.{first_choice, found_law}
 
 -- ---- the magic

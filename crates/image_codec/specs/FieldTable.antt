@@ -8,10 +8,12 @@ use Rattle.osek_standard.specs.declared.{objects.{Task.{Task}, Isr.{Isr}, Counte
 use Rattle.osek_standard.specs.declared.block.Kind.TheVariants as kind
 use Rattle.image_model.specs.CallNames as call
 use Rattle.osek_standard.specs.{Apps.{is_site_in}, Validity.{no_counter, meet, owners}}
-use Rattle.image_codec.specs.{declared.{fault.{ImageRule.{ImageRule, TheVariants.{I1, I2, I3, I4, I5}}, Fault.{Fault}}, parts.{Header.{Header}, Tables.{Tables}}}, Spelling.{magic}}
+use Rattle.image_fields.specs.declared.{fault.{ImageRule.{ImageRule, TheVariants.{I1, I2, I3, I4, I5}}, Fault.{Fault}}, parts.Header.{Header}}
+use Rattle.image_fields.specs.{declared.parts.Tables.{Tables}, Magic.{magic}}
 use Rattle.image_model.specs.declared.image.Version.{Version}
 use Rattle.image_model.specs.declared.image.Version.TheVariants as version
-use Rattle.image_codec.specs.{TableReading.{is_other, is_action_mask, is_start_time, is_start_cycle}, Reading.{Read, fault_at}, BlockReading.{blank_kinds, is_allowed, is_takable, is_due, is_way}}
+use Rattle.image_fields.specs.{TableReading.{is_other, is_action_mask, is_start_time, is_start_cycle}, Reading.{Read, fault_at}}
+use Rattle.image_fields.specs.BlockReading.{blank_kinds, is_allowed, is_takable, is_due, is_way}
 
 -- the fault that reading gives, if it gives one
 abbrev pub fault_of : {A : Type 0} → Read A → Option Fault

@@ -1,10 +1,29 @@
 -- What bytes are: the parts of an image, or the first fault with its offset.
-use Rattle.std.specs.Prelude.{◌≡◌, ℕ, ◌-◌, List, length, Result, Ok, Err}
-use Rattle.image_codec.specs.declared.fault.{Fault.{Fault}, ImageFault.{ImageFault}}
+use Rattle.std.specs.Prelude.{◌≡◌, ℕ, ◌-◌, ◌==◌, List, length, map, Option, Result, Ok, Err}
+use Rattle.image_fields.specs.declared.fault.Fault.{Fault}
+use Rattle.image_codec.specs.declared.fault.ImageFault.{ImageFault}
 use Rattle.osek_values.specs.declared.refused.Refused.{Refused}
 use Rattle.osek_values.specs.declared.refused.Refused.TheVariants as errors
 use Rattle.image_model.specs.declared.image.Image.{Image}
-use Rattle.image_codec.specs.{declared.parts.Parts.{Parts}, Reading.{Read}, BlockReading.{all_at}}
+use Rattle.osek_standard.specs.declared.block.Block.{Block}
+use Rattle.image_model.specs.declared.site.Site.{Site}
+use Rattle.image_codec.specs.declared.parts.Parts.{Parts}
+use Rattle.image_fields.specs.declared.fault.ImageRule.TheVariants.{I6}
+use Rattle.image_fields.specs.{Reading.{Read, ◌>>=◌, kept}, TableReading.{header_at, tables_at}, BlockReading.{blocks_at}}
+
+-- an image at the front of bytes
+unfoldable pub parts_at : List ℕ → Read Parts
+parts_at bytes = do
+  n ← header_at bytes
+  tables ← tables_at n.0 n.1
+  blocks ← blocks_at n.0.version tables.0 n.0.blocks tables.1
+  Ok (record { version = n.0.version; hooks = n.0.hooks; tables = tables.0; blocks = map (λ (x : Block × Option Site). x.0) blocks.0; sites = map (λ (x : Block × Option Site). x.1) blocks.0 }, blocks.1)
+
+-- an image that is all of the bytes
+unfoldable pub all_at : List ℕ → Read Parts
+all_at bytes = do
+  p ← parts_at bytes
+  kept (length p.1 == 0) I6 p.1 p
 
 -- a fault where so many of the bytes are left, at its offset
 abbrev pub located : ℕ → Fault → ImageFault

@@ -1,12 +1,15 @@
 -- What holds of all spellings, and of the first fault of bytes.
 use Rattle.std.specs.Prelude.{◌≡◌, ◌⊎◌, List, [], ◌∷◌, ℕ, ◌++◌, length, Some, Ok, Err}
 use Rattle.image_model.specs.declared.image.{Image.{Image}, Version.{Version}}
-use Rattle.image_codec.specs.{declared.fault.{ImageFault.{ImageFault}, Fault.{Fault}}, Spelling.{spelling}, Fits.{FitsFormat}, ImageReading.{located, read_image, parts_of}}
-use Rattle.image_codec.specs.Reading.{AreBytes, name_at}
+use Rattle.image_codec.specs.{declared.fault.ImageFault.{ImageFault}, Spelling.{spelling}, Fits.{FitsFormat}}
+use Rattle.image_codec.specs.ImageReading.{located, read_image, parts_of}
+use Rattle.image_fields.specs.declared.fault.Fault.{Fault}
+use Rattle.image_fields.specs.Reading.{AreBytes, name_at}
 use Rattle.oil_system.specs.declared.objects.{Alarm.{Alarm}, Resource.{Resource}}
 use Rattle.osek_standard.specs.declared.objects.{Task.{Task}, Isr.{Isr}, Counter.{Counter}}
-use Rattle.image_codec.specs.{declared.parts.{Header.{Header}, Tables.{Tables}}, TableReading.{header_at, task_at, isr_at, counter_at, alarm_at, resource_at, tables_at}}
-use Rattle.image_codec.specs.BlockReading.{blocks_at}
+use Rattle.image_fields.specs.declared.parts.{Header.{Header}, Tables.{Tables}}
+use Rattle.image_fields.specs.TableReading.{header_at, task_at, isr_at, counter_at, alarm_at, resource_at, tables_at}
+use Rattle.image_fields.specs.BlockReading.{blocks_at}
 use Rattle.image_codec.specs.FieldTable.{fault_of, first_broken, name_field, header_fields, task_fields, isr_fields, counter_fields, alarm_fields, resource_fields, blocks_fault}
 
 -- equal bytes mean equal images, whatever follows them

@@ -1,9 +1,5 @@
-pub mod BlockReading
 pub mod FieldTable
 pub mod Fits
 pub mod ImageReading
 pub mod Laws
-pub mod Reading
-pub mod Rules
 pub mod Spelling
-pub mod TableReading

@@ -1,6 +1,6 @@
 -- The bytes of an image, of the format's versions 1 and 2: the fields in order, without gaps, numbers big-endian (this
 -- project's profile).
-use Rattle.std.specs.{Prelude.{ℕ, ◌+◌, Bool, List, [], ◌∷◌, ◌++◌, length, Option, Some, None, if◌then◌else◌, codes}, List.{flat_map, zip}, Int.{to_be_bytes, w16, w32, w64}}
+use Rattle.std.specs.{Prelude.{ℕ, ◌+◌, Bool, List, [], ◌∷◌, ◌++◌, length, Option, Some, None, if◌then◌else◌}, List.{flat_map, zip}, Int.{to_be_bytes, w16, w32, w64}}
 use Rattle.osek_values.specs.declared.{numbers.{BlockNo.{BlockNo}, ResNo.{ResNo}}, lock.Lock.{Lock}}
 use Rattle.osek_values.specs.declared.lock.Lock.TheVariants as lock
 use Rattle.oil_system.specs.declared.objects.{Alarm.{Alarm}, Resource.{Resource}, Schedule.{Schedule, TheVariants.{Non, Full}}, Action.{Action}}
@@ -15,6 +15,7 @@ use Rattle.image_model.specs.declared.site.Known.TheVariants as known
 use Rattle.image_model.specs.declared.image.{Image.{Image}, Version.{Version}}
 use Rattle.image_model.specs.declared.image.Version.TheVariants as version
 use Rattle.image_model.specs.Statuses.{status_number}
+use Rattle.image_fields.specs.Magic.{magic}
 
 abbrev pub one : ℕ → List ℕ
 one n = n ∷ []
@@ -27,14 +28,6 @@ four n = to_be_bytes w32 n
 
 abbrev pub eight : ℕ → List ℕ
 eight n = to_be_bytes w64 n
-
-abbrev pub version_number : Version → ℕ
-version_number version.One = 1
-version_number version.Two = 2
-
--- OSEKFIT and the version
-abbrev pub magic : Version → List ℕ
-magic v = codes "OSEKFIT" ++ one (version_number v)
 
 -- a field that version 2 alone has
 abbrev pub further : Version → List ℕ → List ℕ

@@ -1,20 +1,18 @@
 //! Images from bytes.
 ghost use Rattle.std.specs.Prelude.{◌≡◌, IfOk};
-ghost use Rattle.image_codec.specs.{Spelling.{spelling}, Fits.{FitsFormat}, Reading.{Gives}, BlockReading.{parts_at, all_at}, ImageReading.{Answers, IsAnswered, read_image}};
+ghost use Rattle.image_codec.specs.{Spelling.{spelling}, Fits.{FitsFormat}, ImageReading.{parts_at, all_at, Answers, IsAnswered, read_image}};
+ghost use Rattle.image_fields.specs.Reading.{Gives};
 ghost use Rattle.image_model.specs.declared.image.Image.{Image as AnImage};
 
-use crate::block_reading::blocks;
-use crate::fault::{ImageError, ImageFault, ImageRule, ReadError};
-use crate::header::header;
+use crate::fault::{ImageError, ImageFault};
 use crate::parts::Parts;
-use crate::reader::{Reader, fault};
-use crate::table_reading::tables;
+use image_fields::{Fault, ImageRule, ReadError, Reader, blocks, header, tables};
 use image_model::Image;
 use osek_standard::App;
 use std::alloc::Global;
 
 /// An image at the front of the bytes.
-#[tactic(auto, unfolding(crate::specs::BlockReading::parts_at))]
+#[tactic(auto, unfolding(crate::specs::ImageReading::parts_at))]
 fn parts(alloc: Global, reader: &mut Reader) -> Result<Parts, ReadError>
     ensures { Gives (λ x. x) result reader.new (parts_at reader.old) }
 {
@@ -36,7 +34,7 @@ fn parts(alloc: Global, reader: &mut Reader) -> Result<Parts, ReadError>
 }
 
 /// An image that is all of the bytes.
-#[tactic(auto, unfolding(crate::specs::BlockReading::all_at))]
+#[tactic(auto, unfolding(crate::specs::ImageReading::all_at))]
 fn all(alloc: Global, reader: &mut Reader) -> Result<Parts, ReadError>
     ensures { Gives (λ x. x) result reader.new (all_at reader.old) }
 {
@@ -44,7 +42,10 @@ fn all(alloc: Global, reader: &mut Reader) -> Result<Parts, ReadError>
     let left = reader.left();
     if left != 0 {
         drop(parts);
-        return Err(fault(ImageRule::I6, left));
+        return Err(ReadError::Fault(Fault {
+            rule: ImageRule::I6,
+            left,
+        }));
     }
     Ok(parts)
 }

@@ -1,24 +1,15 @@
 //! The bytes of an image.
 ghost use Rattle.std.specs.{Prelude.{◌≡◌, ◌++◌, length, OnOk, IfOk}, List.{flat_map, zip}};
-ghost use Rattle.image_codec.specs.Spelling.{one, eight, magic as magic_of, further, spelling, header_bytes, name_bytes, range_bytes, schedule_number as number_of_schedule, internal_number as number_of_internal, task_bytes, isr_bytes, counter_bytes, action_bytes, alarm_bytes, resource_bytes, operand_bytes, way_bytes, site_bytes, block_bytes};
+ghost use Rattle.image_codec.specs.Spelling.{one, eight, further, spelling, header_bytes, name_bytes, range_bytes, schedule_number as number_of_schedule, internal_number as number_of_internal, task_bytes, isr_bytes, counter_bytes, action_bytes, alarm_bytes, resource_bytes, operand_bytes, way_bytes, site_bytes, block_bytes};
 
 use crate::numbers::{form_number, kind_number, known_number, lock_number};
+use image_fields::magic;
 use image_model::{Image, Site, Version};
 use osek_standard::{
     Action, Alarm, App, Block, Call, Counter, Isr, Kind, Resource, Schedule, Task,
 };
 use osek_values::{AlarmNo, BlockNo, Memory, Name, ResNo};
 use std::alloc::{AllocError, Global};
-
-/// OSEKFIT and the version.
-pub(crate) fn magic(version: Version) -> &'static [u8]
-    ensures { result.now ≡ magic_of version }
-{
-    match version {
-        Version::One => b"OSEKFIT\x01",
-        Version::Two => b"OSEKFIT\x02",
-    }
-}
 
 /// Bytes that version 2 alone has.
 fn put_further(out: &mut Vec<u8>, version: Version, bytes: &[u8]) -> Result<(), AllocError>

@@ -1,27 +1,17 @@
 //! The bytes of images, of the format's versions 1 and 2.
 #![tactic(auto)]
 
-mod alarms;
-mod block_reading;
 mod decoding;
 mod encoding;
 mod fault;
-mod header;
 mod laws;
-mod named;
 mod numbers;
-mod operands;
 mod parts;
-mod placing;
-mod ranges;
-mod reader;
-mod sites;
-mod table_reading;
-mod ways;
 
 pub use decoding::decode;
 pub use encoding::encode;
-pub use fault::{ImageError, ImageFault, ImageRule};
+pub use fault::{ImageError, ImageFault};
+pub use image_fields::ImageRule;
 pub use image_model::{
     AlreadyNew, Form, Image, Known, Site, Version, form, general, general_is_the_kernel, site_at,
     upgrade,

@@ -1,39 +1,8 @@
 //! The parts of an image while it is read.
+use image_fields::Tables;
 use image_model::{Site, Version};
-use osek_standard::{Alarm, Block, Counter, Isr, Resource, Task};
-use osek_values::{BlockNo, HookSet, Name, Seq};
-
-/// The version, the hooks, how many entries each table has, and how many blocks there are.
-#[derive(Clone, Copy)]
-pub(crate) struct Header {
-    pub version: Version,
-    pub hooks: HookSet,
-    pub tasks: u8,
-    pub isrs: u8,
-    pub counters: u8,
-    pub alarms: u8,
-    pub resources: u8,
-    pub modes: u8,
-    pub blocks: u16,
-}
-
-/// The blocks of an owner: the `count` blocks from `first` on.
-#[derive(Clone, Copy)]
-pub(crate) struct Range {
-    pub first: BlockNo,
-    pub count: u16,
-}
-
-/// The tables of an application.
-#[derive(Drop)]
-pub(crate) struct Tables {
-    pub tasks: Seq<Task>,
-    pub isrs: Seq<Isr>,
-    pub counters: Seq<Counter>,
-    pub alarms: Seq<Alarm>,
-    pub resources: Seq<Resource>,
-    pub modes: Seq<Name>,
-}
+use osek_standard::Block;
+use osek_values::{HookSet, Seq};
 
 /// All that an image's bytes hold.
 #[derive(Drop)]

@@ -6,7 +6,7 @@ use osek_standard::App;
 use osek_values::Seq;
 
 /// The versions of the image format.
-#[derive(Clone, Copy, PartialEq, Eq, Debug)]
+#[derive(Clone, Copy)]
 pub enum Version {
     /// It has no place for known statuses, further activations, INTERNAL resources, and priorities and resources of ISRs, and
     /// wants distinct priorities of tasks.
@@ -17,7 +17,7 @@ pub enum Version {
 
 /// An application and its sites, of a version of the format. There are as many sites as blocks: one for each block that
 /// is a site, and `None` for each other.
-#[derive(Debug, Drop)]
+#[derive(Drop)]
 pub struct Image {
     pub version: Version,
     pub app: App,

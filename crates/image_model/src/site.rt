@@ -8,7 +8,7 @@ use osek_standard::{Call, Kind, MaskService, PlainService, ResourceService, Task
 use osek_values::{BlockNo, Status, TaskNo};
 
 /// What the replayer does with the processor after the effect of a site's call.
-#[derive(Clone, Copy, PartialEq, Eq, Debug)]
+#[derive(Clone, Copy, PartialEq, Eq)]
 pub enum Form {
     /// No state comes here: a trap.
     Never,
@@ -21,7 +21,7 @@ pub enum Form {
 }
 
 /// What is known of the status that a site's instruction notes.
-#[derive(Clone, Copy, PartialEq, Eq, Debug)]
+#[derive(Clone, Copy, PartialEq, Eq)]
 pub enum Known {
     /// Nothing.
     Any,
@@ -30,7 +30,7 @@ pub enum Known {
 }
 
 /// A site: a task's call after which the kernel may dispatch, the end of a task, or the end of a routine.
-#[derive(Clone, Copy, PartialEq, Eq, Debug)]
+#[derive(Clone, Copy, PartialEq, Eq)]
 pub struct Site {
     pub form: Form,
     pub known: Known,

@@ -2,6 +2,7 @@
 use Rattle.std.proofs.Common.{◌≡◌, ℕ, ◌+◌, ◌-◌, ◌<◌, ◌≤◌, Bool, true, false, ◌||◌, List, [], ◌∷◌, ◌++◌, length, map, refl, ◌∙◌, ap, subst, append_assoc, inl, inr, arith, nat_lt, get_or}
 use Rattle.std.specs.List.{IsDistinct, AllByRecursion, list_any}
 use Rattle.std.proofs.lemmas.{Bool.{cases_Bool, Decides.{nat_tests}}, List.Folds.{list_any-append, list_any_at}}
+use Rattle.osek_values.proofs.Lists.{any_of_map}
 use Rattle.osek_standard.specs.{declared.{app.App.{App}, objects.{Task.{Task}, Isr.{Isr}, Counter.{Counter}}}, Validity.{is_within, meet}}
 use Rattle.osek_standard.specs.{Apps.{is_task_block, source_count, no_task, no_isr, no_counter}, Well.{IsOwn, IsOfRoutine}}
 
@@ -37,10 +38,6 @@ apart_at b (x ∷ xs) ys d e f = elim (cases_Bool (is_within b x)) [
   | inr h ↦ apart_at b xs ys d.1 (or_true (is_within b x) (list_any (is_within b) xs) e h) f
 ]
 
-any-map : {X : Type 0} (p : ℕ × ℕ → Bool) (f : X → ℕ × ℕ) (xs : List X) → list_any p (map f xs) ≡ list_any (λ x. p (f x)) xs
-any-map p f [] = refl
-any-map p f (x ∷ xs) = ap (λ (b : Bool). p (f x) || b) (any-map p f xs)
-
 abbrev of_task : Task → ℕ × ℕ
 of_task x = (x.first.0, x.count)
 
@@ -64,12 +61,12 @@ routine_by : (app : App) (k b : ℕ) (counter : Bool) → nat_lt k (length app.c
 routine_by app k b true e known own =
     let below : k < length app.counters = grind (arith, nat_tests) in
     let at : is_within b (of_counter (get_or app.counters k no_counter)) ≡ true = within_of b _ _ (rw e at own) in
-    any_right b (map of_isr app.isrs) (map of_counter app.counters) (any-map (is_within b) of_counter app.counters ∙ list_any_at (λ (x : Counter). is_within b (of_counter x)) app.counters k no_counter below at)
+    any_right b (map of_isr app.isrs) (map of_counter app.counters) (any_of_map (is_within b) of_counter app.counters ∙ list_any_at (λ (x : Counter). is_within b (of_counter x)) app.counters k no_counter below at)
 routine_by app k b false e known own =
     let above : length app.counters ≤ k = grind (arith, nat_tests) in
     let below : k - length app.counters < length app.isrs = omega (arith, known, above) in
     let at : is_within b (of_isr (get_or app.isrs (k - length app.counters) no_isr)) ≡ true = within_of b _ _ (rw e at own) in
-    let left : list_any (is_within b) (map of_isr app.isrs) ≡ true = any-map (is_within b) of_isr app.isrs ∙ list_any_at (λ (x : Isr). is_within b (of_isr x)) app.isrs (k - length app.counters) no_isr below at in
+    let left : list_any (is_within b) (map of_isr app.isrs) ≡ true = any_of_map (is_within b) of_isr app.isrs ∙ list_any_at (λ (x : Isr). is_within b (of_isr x)) app.isrs (k - length app.counters) no_isr below at in
     list_any-append (is_within b) (map of_isr app.isrs) (map of_counter app.counters) ∙ ap (λ (c : Bool). c || list_any (is_within b) (map of_counter app.counters)) left
 
 -- a routine's block is no task block
@@ -77,5 +74,5 @@ pub routine_is_no_task_block : (app : App) (k b : ℕ) → k < source_count app 
 routine_is_no_task_block app k b known own task =
     apart_at b (map of_task app.tasks) (routines app)
     (subst (IsDistinct meet) (append_assoc (map of_task app.tasks) (map of_isr app.isrs) (map of_counter app.counters)) app.valid.apart)
-    (any-map (is_within b) of_task app.tasks ∙ task)
+    (any_of_map (is_within b) of_task app.tasks ∙ task)
     (routine_by app k b (nat_lt k (length app.counters)) refl known own)

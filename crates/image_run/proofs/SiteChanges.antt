@@ -130,7 +130,7 @@ returned_keeps_rest app s processor.Idle = refl
 returned_keeps_rest app s (processor.Running t) = refl
 returned_keeps_rest app s (processor.Interrupted k over) = let r = with_source s k.0 source.Out in returned_to_keeps_rest app r over (next_routine app r)
 
-site_kind : (end may task : Bool) → (if end then true else if may then task else false) ≡ true → (end || may) ≡ true
+pub site_kind : (end may task : Bool) → (if end then true else if may then task else false) ≡ true → (end || may) ≡ true
 site_kind true may task e = refl
 site_kind false true task e = refl
 site_kind false false task e = e

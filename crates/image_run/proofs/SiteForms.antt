@@ -21,10 +21,6 @@ is_of_site i b known = site_of i.app (is_site i.app b) (site_at i b) (i.valid.ea
 pub no_site_there : (i : Image) (b : ℕ) → b < length i.app.blocks → site_at i b ≡ None → is_site i.app b ≡ false
 no_site_there i b known e = no_site_of i.app (is_site i.app b) (site_at i b) (i.valid.each b known) e
 
-pub if_some_onward : (P Q : Type 0) (o : Option Site) → (P → Q) → IfSome o (λ (x : Site). P) → IfSome o (λ (x : Site). Q)
-if_some_onward P Q None f h = tt
-if_some_onward P Q (Some x) f h = f h
-
 -- another site in place of one
 pub with_site : (i : Image) (b : ℕ) (y x : Site) → b < length i.app.blocks → site_at i b ≡ Some y → IsForm (length i.app.tasks) x.form → AreSites i.app (slice_set i.sites b (Some x))
 with_site i b y x known e form =

@@ -1,7 +1,7 @@
 -- An instruction at a site puts at most one more place at the end of the line.
-use Rattle.std.proofs.Common.{◌≡◌, ℕ, Bool, true, false, List, [], ◌∷◌, length, take, refl, ◌∙◌, ap, subst, Some, None, not, ◌||◌, ◌&&◌, nat_lt, nat_eq, arith, ◌++◌}
+use Rattle.std.proofs.Common.{◌≡◌, ℕ, Bool, true, List, [], ◌∷◌, length, take, refl, ◌∙◌, ap, subst, Some, None, not, ◌||◌, ◌&&◌, nat_lt, nat_eq, arith, ◌++◌}
 use Rattle.std.proofs.lemmas.List.{take_all, take_at}
-use Rattle.std.specs.{Prelude.{if◌then◌else◌}, declared.option.Option.{Option}}
+use Rattle.std.specs.declared.option.Option.{Option}
 use Rattle.osek_values.specs.{declared.numbers.{BlockNo.{BlockNo}, ResNo.{ResNo}, SourceNo.{SourceNo}, TaskNo.{TaskNo}}, Numbers.{task_no}}
 use Rattle.osek_standard.specs.declared.{app.App.{App}, block.{Block.{Block}, Kind.{Kind}}, call.Call.{Call}, task_state.Place.{Place}}
 use Rattle.osek_standard.specs.declared.state.{State.{State}, Processor.{Processor}, Caller.{Caller, TheVariants.{Nobody, Task, Routine}}}
@@ -17,6 +17,7 @@ use Rattle.osek_standard.specs.declared.state.Source.TheVariants as source
 use Rattle.osek_standard.specs.declared.state.Processor.TheVariants as processor
 use Rattle.osek_standard.proofs.BoolLaws.{either_way}
 use Rattle.image_model.specs.CallNames as call
+use Rattle.image_run.proofs.SiteChanges.{site_kind}
 
 -- the line of a state is a prefix of that of another
 abbrev IsPrefix : State → State → Type 0
@@ -143,11 +144,6 @@ returned_lengthens app s processor.Halted = whole s
 returned_lengthens app s processor.Idle = whole s
 returned_lengthens app s (processor.Running t) = whole s
 returned_lengthens app s (processor.Interrupted k over) = let r = with_source s k.0 source.Out in returned_to_lengthens app r over (next_routine app r)
-
-site_kind : (end may task : Bool) → (if end then true else if may then task else false) ≡ true → (end || may) ≡ true
-site_kind true may task e = refl
-site_kind false true task e = refl
-site_kind false false task e = e
 
 module _ (app : App) (s : State) (choice : Bool) where
   moved_on : (next : BlockNo) → IsPrefix s (moved_to s next)

@@ -191,20 +191,19 @@ fn instruct_silently<L: Ledger>(
     ready: &mut Ready,
     choice: bool,
     place: Place,
-    site: Option<Site>,
     scans: &mut Steps<L>,
 ) -> Option<HookSet>
     requires well { Well image.now.app state.old }
     requires ready { IsReady image.now.app state.old ready.old }
     requires active { IsActive state.old.processor }
     requires here { here_of state.old ≡ place }
-    requires site { site ≡ site_at_of image.now place.block.0 }
     ensures step { IfSome result (λ hooks. instructed image.now state.old choice ≡ Some (stepped state.new (hooks_noted hooks))) }
     ensures other { IfNone result ((state.new ≡ state.old) × (scans.new ≡ scans.old)) }
     ensures well { Well image.now.app state.new }
     ensures ready { IsReady image.now.app state.new ready.new }
     ensures scans { scans.new ≤ scans.old + scans_at (form_at image.now place.block.0) (length image.now.app.tasks) }
 {
+    let site = site_at(image, place.block);
     if !is_free(site) {
         return None;
     }
@@ -285,11 +284,11 @@ fn instruct<L: Ledger>(
     ensures scans { scans.new ≤ scans.old + scans_at (form_at image.now (here_of state.old).block.0) (length image.now.app.tasks) }
 {
     let place = here(&image.app, state);
-    let site = site_at(image, place.block);
-    if let Some(hooks) = instruct_silently(image, state, ready, choice, place, site, scans) {
+    if let Some(hooks) = instruct_silently(image, state, ready, choice, place, scans) {
         *notes = Notes { hooks, ..nothing() };
         return true;
     }
+    let site = site_at(image, place.block);
     match instruct_at(image, state, ready, choice, site, scans) {
         None => false,
         Some(noted) => {

@@ -5,9 +5,10 @@ ghost use Rattle.osek_standard.specs.{Apps.{tables}, States.{here as here_of}, V
 ghost use Rattle.image_model.specs.ImageStep.{instructed, site_at as site_at_of};
 ghost use Rattle.image_run.specs.Trapless.{foresees as foresees_at, keeps_caller as keeps_caller_at, takes_all as takes_all_at};
 
+use activation::is_full;
 use generic_kernel::here;
 use image_model::{Form, Image, Known, Site};
-use osek_standard::{App, Call, Kind, PlainService, ResourceService, State, TaskService, is_full};
+use osek_standard::{App, Call, Kind, PlainService, ResourceService, State, TaskService};
 use osek_values::Status;
 
 /// Whether after an instruction of this kind the caller, or what a routine interrupted, is still there.

@@ -67,7 +67,7 @@ fn is_at<F: Shelf>(shelf: &mut F, name: &str, place: u64, wanted: &[u8]) -> bool
 fn reads_a_file_at_its_places(rt: HostRuntime) -> Result<(), Fail> {
     let path = path_of(&rt, "places")?;
     let mut shelf = FileShelf::new(&rt);
-    assert_eq!(rt; store(&mut shelf, path.as_str(), b"0123456789"), Ok(()));
+    assert!(rt; store(&mut shelf, path.as_str(), b"0123456789") == Ok(()));
     assert!(rt; is_at(&mut shelf, path.as_str(), 0, b"01234567"));
     assert!(rt; is_at(&mut shelf, path.as_str(), 3, b"3456789"));
     assert!(rt; is_at(&mut shelf, path.as_str(), 9, b"9"));
@@ -75,7 +75,7 @@ fn reads_a_file_at_its_places(rt: HostRuntime) -> Result<(), Fail> {
     assert!(rt; is_at(&mut shelf, path.as_str(), 10, b""));
     assert!(rt; is_at(&mut shelf, path.as_str(), 1 << 40, b""));
     fs::remove_file(&rt, path.as_str())?;
-    assert_eq!(rt; shelf.read(path.as_str(), 0, &mut [0; 8]), Err(Failed));
+    assert!(rt; shelf.read(path.as_str(), 0, &mut [0; 8]) == Err(Failed));
     Ok(())
 }
 
@@ -84,9 +84,9 @@ fn a_folder_is_no_file(rt: HostRuntime) -> Result<(), Fail> {
     let path = path_of(&rt, "folder")?;
     fs::create_dir(&rt, path.as_str())?;
     let mut shelf = FileShelf::new(&rt);
-    assert_eq!(rt; shelf.read(path.as_str(), 0, &mut [0; 8]), Err(Failed));
-    assert_eq!(rt; shelf.create(path.as_str()), Err(Failed));
-    assert_eq!(rt; shelf.append(path.as_str(), b"x"), Err(Failed));
+    assert!(rt; shelf.read(path.as_str(), 0, &mut [0; 8]) == Err(Failed));
+    assert!(rt; shelf.create(path.as_str()) == Err(Failed));
+    assert!(rt; shelf.append(path.as_str(), b"x") == Err(Failed));
     fs::remove_dir(&rt, path.as_str())?;
     Ok(())
 }

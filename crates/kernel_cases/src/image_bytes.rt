@@ -1,5 +1,5 @@
-//! Worked images as bytes, and what hostile bytes are.
-use image_codec::{Form, Image, ImageError, ImageRule, decode, encode, form, general};
+//! Worked images as bytes.
+use image_codec::{Form, Image, decode, encode, form, general};
 use osek_standard::{Call, Kind, PlainService, Schedule, Task, TaskService};
 use osek_values::{BlockNo, TaskNo};
 use std::alloc::Global;
@@ -27,39 +27,6 @@ const TWO_TASKS: [u8; 137] = [
     0x00, 0x00, 0x00, 0x00, 0x01, 0x00, 0x00, 0x04, 0x00, 0x00, 0x00, 0x00, 0x02, 0x00, 0x04, 0x02,
     0x00, 0x16, 0x00, 0x00, 0x00, 0x00, 0x02, 0x00, 0x00,
 ];
-
-/// Where the fields of `TWO_TASKS` begin, and where it ends.
-const FIELDS: [usize; 51] = [
-    0, 8, 9, 10, 11, 12, 13, 14, 15, 17, 20, 22, 23, 31, 32, 34, 36, 39, 41, 42, 50, 51, 53, 55,
-    69, 73, 90, 91, 92, 96, 97, 99, 101, 102, 103, 107, 109, 111, 112, 113, 117, 119, 120, 121,
-    125, 127, 129, 130, 131, 135, 137,
-];
-
-fn rule_and_place(error: ImageError) -> Option<(ImageRule, usize)> {
-    match error {
-        ImageError::Fault(fault) => Some((fault.rule, fault.offset)),
-        ImageError::Memory => None,
-    }
-}
-
-/// The fault of bytes that are no image.
-fn fault_of(alloc: Global, bytes: &[u8]) -> Option<(ImageRule, usize)> {
-    rule_and_place(decode(alloc, bytes).err()?)
-}
-
-/// Whether bytes have this fault.
-pub fn is_fault(alloc: Global, bytes: &[u8], rule: ImageRule, offset: usize) -> bool {
-    fault_of(alloc, bytes) == Some((rule, offset))
-}
-
-/// The two tasks' image with one byte changed.
-fn changed(at: usize, byte: u8) -> [u8; 137] {
-    let mut bytes = TWO_TASKS;
-    if at < 137 {
-        bytes[at] = byte;
-    }
-    bytes
-}
 
 /// Whether the bytes are the image's.
 pub fn spells(alloc: Global, image: &Image, bytes: &[u8]) -> bool {
@@ -174,113 +141,4 @@ fn general_forms(rt: HostRuntime) {
     bytes[79] = 0;
     bytes[80] = 1;
     assert!(rt; are_so_made_general(rt.alloc(), &bytes));
-}
-
-/// Whether the first bytes of the two tasks' image, so many, end early in this field.
-fn is_cut(alloc: Global, len: usize, field: usize) -> bool {
-    match TWO_TASKS.get(..len) {
-        Some(bytes) => is_fault(alloc, bytes, ImageRule::I1, field),
-        None => false,
-    }
-}
-
-/// The first length that the two tasks' image isn't rightly cut to.
-fn first_wrong_cut(alloc: Global) -> Option<usize> {
-    let mut field = 0;
-    for len in 0..137usize {
-        if FIELDS.contains(&len) {
-            field = len;
-        }
-        if !is_cut(alloc, len, field) {
-            return Some(len);
-        }
-    }
-    None
-}
-
-#[test]
-fn cut_at_each_length(rt: HostRuntime) {
-    assert_eq!(rt; first_wrong_cut(rt.alloc()), None);
-}
-
-/// The two tasks' image with a byte behind it.
-fn longer() -> [u8; 138] {
-    let mut bytes = [0; 138];
-    bytes[..137].copy_from_slice(&TWO_TASKS);
-    bytes
-}
-
-#[test]
-fn a_byte_after_the_end(rt: HostRuntime) {
-    assert!(rt; is_fault(rt.alloc(), &longer(), ImageRule::I6, 137));
-}
-
-/// A byte of the two tasks' image at an offset, and the fault with it: its rule and its offset.
-const HOSTILE: [(&str, usize, u8, ImageRule, usize); 20] = [
-    ("no magic", 0, 0x4e, ImageRule::I2, 0),
-    ("another version", 7, 3, ImageRule::I2, 0),
-    ("version 2 without its fields", 7, 2, ImageRule::I3, 37),
-    ("a sixth hook", 8, 32, ImageRule::I3, 8),
-    ("seventeen tasks", 9, 17, ImageRule::I3, 9),
-    ("no mode", 14, 0, ImageRule::I3, 14),
-    ("a name of no byte", 17, 0, ImageRule::I4, 17),
-    (
-        "a name that begins with a digit",
-        18,
-        0x31,
-        ImageRule::I4,
-        17,
-    ),
-    ("one name twice", 38, 0x31, ImageRule::I4, 36),
-    ("one priority twice", 40, 1, ImageRule::I5, 39),
-    (
-        "an owner that takes a block of a later one",
-        35,
-        4,
-        ImageRule::I5,
-        53,
-    ),
-    (
-        "an owner whose last block is no end",
-        35,
-        2,
-        ImageRule::I5,
-        101,
-    ),
-    ("an owner of no block", 35, 0, ImageRule::I3, 34),
-    ("a kind above 25", 90, 26, ImageRule::I3, 90),
-    ("IsrEnd in a task", 90, 23, ImageRule::I5, 90),
-    ("a task beyond the tasks", 96, 2, ImageRule::I3, 96),
-    ("a way out of the owner", 98, 3, ImageRule::I5, 97),
-    ("a way beyond the blocks", 98, 5, ImageRule::I3, 97),
-    (
-        "a form for a task beyond the tasks",
-        100,
-        2,
-        ImageRule::I3,
-        99,
-    ),
-    ("a form above General", 99, 4, ImageRule::I3, 99),
-];
-
-#[test]
-fn a_way_beyond_the_blocks(rt: HostRuntime) {
-    let mut bytes = ONE_TASK;
-    bytes[78] = 2;
-    assert!(rt; is_fault(rt.alloc(), &bytes, ImageRule::I3, 77));
-}
-
-/// The name of the first that gives another fault, or none.
-fn first_wrong_byte(alloc: Global) -> Option<&'static str> {
-    for (name, at, byte, rule, offset) in &HOSTILE {
-        if !is_fault(alloc, &changed(*at, *byte), *rule, *offset) {
-            return Some(*name);
-        }
-    }
-    None
-}
-
-#[test]
-fn hostile_bytes(rt: HostRuntime) {
-    assert_eq!(rt; first_wrong_byte(rt.alloc()), None);
 }

@@ -21,9 +21,9 @@ mod lists;
 #[cfg(test)]
 mod machines;
 #[cfg(test)]
-mod point_lines;
-#[cfg(test)]
 mod points;
+#[cfg(test)]
+mod real_files;
 #[cfg(test)]
 mod shelves_and_sinks;
 #[cfg(test)]

@@ -116,7 +116,7 @@ fn general_runs_as(alloc: Global, wanted: &[Turn; 3]) -> Result<bool, TextError>
 
 #[test]
 fn general_forms_run_as_the_kernel(rt: HostRuntime) {
-    assert_eq!(rt; general_runs_as(rt.alloc(), &kernels_runs()), Ok(true));
+    assert!(rt; general_runs_as(rt.alloc(), &kernels_runs()) == Ok(true));
 }
 
 /// Whether the image with another first site runs so.
@@ -141,35 +141,23 @@ fn changed_runs_as(
 
 #[test]
 fn a_trap_is_answered_again(rt: HostRuntime) {
-    assert_eq!(rt;
-        changed_runs_as(rt.alloc(), Form::Never, Known::Any, &traps()),
-        Ok(true)
-    );
+    assert!(rt; changed_runs_as(rt.alloc(), Form::Never, Known::Any, &traps()) == Ok(true));
 }
 
 #[test]
 fn the_known_status_is_noted(rt: HostRuntime) {
     let known = Known::Always(Some(Status::Ok));
-    assert_eq!(rt;
-        changed_runs_as(rt.alloc(), Form::General, known, &kernels_runs()),
-        Ok(true)
-    );
+    assert!(rt; changed_runs_as(rt.alloc(), Form::General, known, &kernels_runs()) == Ok(true));
 }
 
 #[test]
 fn another_status_than_the_known_one_traps(rt: HostRuntime) {
     let known = Known::Always(Some(Status::Limit));
-    assert_eq!(rt;
-        changed_runs_as(rt.alloc(), Form::General, known, &traps()),
-        Ok(true)
-    );
+    assert!(rt; changed_runs_as(rt.alloc(), Form::General, known, &traps()) == Ok(true));
 }
 
 #[test]
 fn a_status_where_none_is_known_traps(rt: HostRuntime) {
     let known = Known::Always(None);
-    assert_eq!(rt;
-        changed_runs_as(rt.alloc(), Form::General, known, &traps()),
-        Ok(true)
-    );
+    assert!(rt; changed_runs_as(rt.alloc(), Form::General, known, &traps()) == Ok(true));
 }

@@ -38,11 +38,11 @@ fn points_in_order(rt: HostRuntime) {
         over(3, None),
         Point::Task(BlockNo(65_535)),
     ];
-    assert_eq!(rt; first_wrong(&points), None);
+    assert!(rt; first_wrong(&points) == None);
 }
 
 #[test]
 fn the_last_point_has_the_greatest_number(rt: HostRuntime) {
-    assert_eq!(rt; over(65_535, Some(TaskNo(255))).number(), 16_842_753);
-    assert_eq!(rt; Point::Idle.number(), 1);
+    assert!(rt; over(65_535, Some(TaskNo(255))).number() == 16_842_753);
+    assert!(rt; Point::Idle.number() == 1);
 }

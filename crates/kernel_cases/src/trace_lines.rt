@@ -1,4 +1,4 @@
-//! Lines of a small application: an extended task, an ISR and a counter.
+//! Lines that are written of a small application: an extended task, an ISR and a counter.
 ghost use Rattle.std.specs.{Prelude.{◌≡◌, IfOk, [], ◌∷◌}, Bool.{OnTrue}};
 ghost use Rattle.osek_standard.specs.{Well.{Well}, declared.state.Source.TheVariants.{Out}};
 ghost use Rattle.kernel_cases.specs.Sample.{IsOfSampleSize, sample_state};
@@ -8,92 +8,10 @@ use crate::lists::{listed, one};
 use front_end::TextError;
 use osek_standard::{Activity, App, Processor, Source, State, TaskState};
 use osek_values::limits::LINE_MAX;
-use osek_values::{
-    CounterNo, Event, HookSet, IsrNo, Line, Mask, Memory, ModeNo, Notes, Seq, Status, TaskNo, Value,
-};
+use osek_values::{HookSet, Line, Mask, Memory, ModeNo, Notes, Seq, Status, TaskNo, Value};
 use std::alloc::Global;
 use std::test::*;
-use trace_text::{EventFault, FEED_ROOM, FaultyLine, Feed, FeedStep, read_event, write_line};
-
-/// Lines with what is read of them.
-const LINES: [(&[u8], Result<Option<Event>, EventFault>); 14] = [
-    (b"run 0", Ok(Some(Event::Run(false)))),
-    (b"\trun  1 ", Ok(Some(Event::Run(true)))),
-    (b"irq I", Ok(Some(Event::Irq(IsrNo(0))))),
-    (b"tick\tC", Ok(Some(Event::Tick(CounterNo(0))))),
-    (b"", Ok(None)),
-    (b" \t", Ok(None)),
-    (b" # run 2", Ok(None)),
-    (b"#", Ok(None)),
-    (b"run 2", Err(EventFault::E1)),
-    (b"run 0\r", Err(EventFault::E1)),
-    (b"irq", Err(EventFault::E1)),
-    (b"irq I I", Err(EventFault::E1)),
-    (b"irq C", Err(EventFault::E2)),
-    (b"tick 5", Err(EventFault::E2)),
-];
-
-/// Whether the lines are read so, and one of 256 bytes is within the limit.
-fn are_read(app: &App) -> bool {
-    for (line, want) in LINES {
-        if read_event(app, line) != want {
-            return false;
-        }
-    }
-    read_event(app, &[b'#'; 256]) == Ok(None)
-        && read_event(app, &[b'#'; 257]) == Err(EventFault::E3)
-}
-
-fn sample_reads(alloc: Global) -> Result<bool, TextError> {
-    let app = sample(alloc)?;
-    let read = are_read(&app);
-    drop(app);
-    Ok(read)
-}
-
-#[test]
-fn reads_event_lines(rt: HostRuntime) {
-    assert_eq!(rt; sample_reads(rt.alloc()), Ok(true));
-}
-
-/// The first fault of a text that comes in one piece.
-fn first_fault(alloc: Global, app: &App, text: &[u8]) -> Result<Option<FaultyLine>, Memory> {
-    let mut feed = Feed::new(alloc)?;
-    let _ = feed.give(text);
-    feed.finish();
-    for line in 1..=FEED_ROOM as u32 {
-        if feed.next() != FeedStep::Line {
-            return Ok(None);
-        }
-        if let Err(rule) = read_event(app, feed.line()) {
-            return Ok(Some(FaultyLine { line, rule }));
-        }
-    }
-    Ok(None)
-}
-
-/// Whether a text without a fault and one with two give what they should.
-fn are_found(alloc: Global, app: &App) -> Result<bool, Memory> {
-    let unknown = FaultyLine {
-        line: 3,
-        rule: EventFault::E2,
-    };
-    let none = first_fault(alloc, app, b"run 0\r\n\n# x\r\nirq I")?;
-    let first = first_fault(alloc, app, b"run 0\nrun 0\nirq X\nrun 2\n")?;
-    Ok(none == None && first == Some(unknown))
-}
-
-fn sample_finds(alloc: Global) -> Result<bool, TextError> {
-    let app = sample(alloc)?;
-    let found = are_found(alloc, &app);
-    drop(app);
-    Ok(found?)
-}
-
-#[test]
-fn finds_the_first_fault(rt: HostRuntime) {
-    assert_eq!(rt; sample_finds(rt.alloc()), Ok(true));
-}
+use trace_text::write_line;
 
 fn two_out(alloc: Global) -> Result<Seq<Source>, Memory>
     ensures { IfOk result (λ s. s ≡ Out ∷ Out ∷ []) }
@@ -202,5 +120,5 @@ fn sample_is_written(alloc: Global) -> Result<bool, TextError> {
 
 #[test]
 fn writes_lines(rt: HostRuntime) {
-    assert_eq!(rt; sample_is_written(rt.alloc()), Ok(true));
+    assert!(rt; sample_is_written(rt.alloc()) == Ok(true));
 }

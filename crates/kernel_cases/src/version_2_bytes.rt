@@ -1,6 +1,6 @@
 //! Worked images of version 2 as bytes, and what becomes of one of version 1.
-use crate::image_bytes::{ONE_TASK, has_forms, is_fault, reads, spells};
-use image_codec::{AlreadyNew, Form, Image, ImageRule, Known, Version, decode, upgrade};
+use crate::image_bytes::{ONE_TASK, has_forms, reads, spells};
+use image_codec::{AlreadyNew, Form, Image, Known, Version, decode, upgrade};
 use osek_standard::Task;
 use osek_values::{ResNo, Status, TaskNo};
 use std::alloc::Global;
@@ -28,13 +28,6 @@ const TWO_TASKS_2: [u8; 149] = [
     0x00, 0x00, 0x01, 0x00, 0x02, 0x02, 0xff, 0x09, 0x16, 0x00, 0x00, 0x00, 0x00, 0x01, 0x00, 0x00,
     0xff, 0x04, 0x00, 0x00, 0x00, 0x00, 0x02, 0x00, 0x04, 0x02, 0x00, 0x09, 0x16, 0x00, 0x00, 0x00,
     0x00, 0x02, 0x00, 0x00, 0xff,
-];
-
-/// Where the fields of `TWO_TASKS_2` begin, and where it ends.
-const FIELDS_2: [usize; 62] = [
-    0, 8, 9, 10, 11, 12, 13, 14, 15, 17, 20, 22, 23, 31, 32, 34, 36, 37, 38, 41, 43, 44, 52, 53,
-    55, 57, 58, 59, 73, 77, 78, 80, 97, 98, 99, 103, 104, 106, 108, 109, 110, 111, 115, 117, 119,
-    120, 121, 122, 126, 128, 129, 130, 131, 135, 137, 139, 140, 141, 142, 146, 148, 149,
 ];
 
 /// What is known of the statuses at these places of `ONE_TASK_2`, and that nothing is.
@@ -117,101 +110,6 @@ fn an_upgrade(rt: HostRuntime) {
     assert!(rt; are_upgraded_once(rt.alloc(), &ONE_TASK, &one_task_upgraded()));
 }
 
-/// Whether the first bytes of the two tasks' image, so many, end early in this field.
-fn is_cut(alloc: Global, len: usize, field: usize) -> bool {
-    match TWO_TASKS_2.get(..len) {
-        Some(bytes) => is_fault(alloc, bytes, ImageRule::I1, field),
-        None => false,
-    }
-}
-
-/// The first length that the two tasks' image isn't rightly cut to.
-fn first_wrong_cut(alloc: Global) -> Option<usize> {
-    let mut field = 0;
-    for len in 0..149usize {
-        if FIELDS_2.contains(&len) {
-            field = len;
-        }
-        if !is_cut(alloc, len, field) {
-            return Some(len);
-        }
-    }
-    None
-}
-
-#[test]
-fn cut_at_each_length_in_version_2(rt: HostRuntime) {
-    assert_eq!(rt; first_wrong_cut(rt.alloc()), None);
-}
-
-/// The two tasks' image with a byte behind it.
-fn longer() -> [u8; 150] {
-    let mut bytes = [0; 150];
-    bytes[..149].copy_from_slice(&TWO_TASKS_2);
-    bytes
-}
-
-#[test]
-fn a_byte_after_the_end_in_version_2(rt: HostRuntime) {
-    assert!(rt; is_fault(rt.alloc(), &longer(), ImageRule::I6, 149));
-}
-
-/// A byte of the two tasks' image at an offset, and the fault with it: its rule and its offset.
-const HOSTILE_2: [(&str, usize, u8, ImageRule, usize); 10] = [
-    ("a third version", 7, 3, ImageRule::I2, 0),
-    (
-        "version 1 with fields of version 2",
-        7,
-        1,
-        ImageRule::I4,
-        36,
-    ),
-    ("no activation", 36, 0, ImageRule::I3, 36),
-    (
-        "an INTERNAL resource beyond the resources",
-        58,
-        1,
-        ImageRule::I3,
-        58,
-    ),
-    (
-        "a task whose INTERNAL resource isn't INTERNAL",
-        58,
-        0,
-        ImageRule::I5,
-        77,
-    ),
-    ("a property of number 2", 77, 2, ImageRule::I3, 77),
-    ("an interrupt ceiling above 256", 78, 2, ImageRule::I3, 78),
-    ("a form above General", 106, 4, ImageRule::I3, 106),
-    ("a status of number 10", 108, 10, ImageRule::I3, 108),
-    ("a status of number fe", 148, 0xfe, ImageRule::I3, 148),
-];
-
-/// The two tasks' image with one byte changed.
-fn changed(at: usize, byte: u8) -> [u8; 149] {
-    let mut bytes = TWO_TASKS_2;
-    if at < 149 {
-        bytes[at] = byte;
-    }
-    bytes
-}
-
-/// The name of the first that gives another fault, or none.
-fn first_wrong_byte(alloc: Global) -> Option<&'static str> {
-    for (name, at, byte, rule, offset) in &HOSTILE_2 {
-        if !is_fault(alloc, &changed(*at, *byte), *rule, *offset) {
-            return Some(*name);
-        }
-    }
-    None
-}
-
-#[test]
-fn hostile_bytes_in_version_2(rt: HostRuntime) {
-    assert_eq!(rt; first_wrong_byte(rt.alloc()), None);
-}
-
 /// Tasks of one priority, of which the first takes two activations and the second is inside RES_SCHEDULER.
 fn of_one_priority() -> [u8; 149] {
     let mut bytes = TWO_TASKS_2;
@@ -240,37 +138,12 @@ fn shared_priorities_activations_and_an_internal_resource(rt: HostRuntime) {
     assert!(rt; reads(rt.alloc(), &of_one_priority(), is_of_one_priority));
 }
 
-#[test]
-fn several_activations_of_an_extended_task(rt: HostRuntime) {
-    let mut bytes = TWO_TASKS_2;
-    bytes[30] = 1;
-    bytes[36] = 2;
-    assert!(rt; is_fault(rt.alloc(), &bytes, ImageRule::I3, 36));
-}
-
-// The first block gives RES_SCHEDULER back, which is INTERNAL.
-#[test]
-fn a_call_on_an_internal_resource(rt: HostRuntime) {
-    let mut bytes = TWO_TASKS_2;
-    bytes[77] = 1;
-    bytes[97] = 8;
-    bytes[103] = 0;
-    assert!(rt; is_fault(rt.alloc(), &bytes, ImageRule::I5, 103));
-}
-
 /// An ISR of priority 3, which takes a resource that keeps it out, and ends.
 const ONE_ISR_2: [u8; 53] = [
     0x4f, 0x53, 0x45, 0x4b, 0x46, 0x49, 0x54, 0x02, 0x00, 0x00, 0x01, 0x00, 0x00, 0x01, 0x01, 0x00,
     0x02, 0x01, 0x49, 0x00, 0x00, 0x00, 0x02, 0x03, 0x01, 0x52, 0x00, 0x00, 0x00, 0x01, 0x00, 0x00,
     0x04, 0x01, 0x4d, 0x07, 0x00, 0x00, 0x00, 0x00, 0x01, 0x00, 0x00, 0x01, 0x17, 0x00, 0x00, 0x00,
     0x00, 0x01, 0x01, 0x00, 0xff,
-];
-
-/// The same without the fields of version 2.
-const ONE_ISR: [u8; 48] = [
-    0x4f, 0x53, 0x45, 0x4b, 0x46, 0x49, 0x54, 0x01, 0x00, 0x00, 0x01, 0x00, 0x00, 0x01, 0x01, 0x00,
-    0x02, 0x01, 0x49, 0x00, 0x00, 0x00, 0x02, 0x01, 0x52, 0x00, 0x00, 0x00, 0x01, 0x01, 0x4d, 0x07,
-    0x00, 0x00, 0x00, 0x00, 0x01, 0x00, 0x00, 0x01, 0x17, 0x00, 0x00, 0x00, 0x00, 0x01, 0x01, 0x00,
 ];
 
 /// The greatest priority and interrupt ceiling.
@@ -302,17 +175,4 @@ fn an_isr_with_a_resource(rt: HostRuntime) {
     let alloc = rt.alloc();
     assert!(rt; reads(alloc, &ONE_ISR_2, is_of_one_isr));
     assert!(rt; reads(alloc, &of_the_greatest_level(), is_of_the_greatest_level));
-}
-
-// Version 1 has no ISR that takes a resource.
-#[test]
-fn an_isr_with_a_resource_in_version_1(rt: HostRuntime) {
-    assert!(rt; is_fault(rt.alloc(), &ONE_ISR, ImageRule::I5, 31));
-}
-
-#[test]
-fn an_interrupt_ceiling_of_257(rt: HostRuntime) {
-    let mut bytes = of_the_greatest_level();
-    bytes[32] = 1;
-    assert!(rt; is_fault(rt.alloc(), &bytes, ImageRule::I3, 31));
 }

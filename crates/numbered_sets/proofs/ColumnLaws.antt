@@ -1,25 +1,8 @@
 -- Numbers of slots by column and row.
-use Rattle.std.proofs.Common.{◌≡◌, ◌≢◌, ℕ, zero, suc, ◌+◌, ◌*◌, ◌/◌, ◌%◌, ◌<◌, List, [], ◌∷◌, ◌++◌, length, get_or, set, sym, ap, ap₂, subst, ◌∙◌, inl, inr, refl, arith}
-use Rattle.std.specs.Prelude.{Option, IfSome, IfNone}
+use Rattle.std.proofs.Common.{◌≡◌, ◌≢◌, ℕ, ◌+◌, ◌*◌, ◌/◌, ◌%◌, ◌<◌, List, [], ◌∷◌, ◌++◌, length, get_or, set, sym, ap, ap₂, subst, ◌∙◌, inl, inr, arith}
 use Rattle.std.proofs.{Math.Seq.{get_or-append_seam}, lemmas.{Bool.{cases_eq, cases_lt}, Nat.{div-add-mod', div-mul-add, mod-mul-add}}}
 use Rattle.std.proofs.lemmas.List.{length-append, get_or_append_left, get_or-set_same, get_or-set_other}
 use Rattle.numbered_sets.specs.Slots.{IsPlaceOf, IsUnused, none, number_in, AreNumbersBySlot, AreSameNumbers, IsRoomAt}
-
-pub same_itself : (columns : List (List ℕ)) → AreSameNumbers columns columns
-same_itself columns = record { each = λ c r. refl }
-
-pub same_onward : (a b c : List (List ℕ)) → AreSameNumbers a b → AreSameNumbers b c → AreSameNumbers a c
-same_onward a b c h k = record { each = λ column row. k.each column row ∙ h.each column row }
-
-pub default_behind : {A : Type 0} (xs : List A) (d : A) (n : ℕ) → get_or (xs ++ d ∷ []) n d ≡ get_or xs n d
-default_behind [] d zero = refl
-default_behind [] d (suc n) = refl
-default_behind (x ∷ xs) d zero = refl
-default_behind (x ∷ xs) d (suc n) = default_behind xs d n
-
--- a column that has no number yet
-pub same_with_column : (before columns : List (List ℕ)) → AreSameNumbers before columns → AreSameNumbers before (columns ++ [] ∷ [])
-same_with_column before columns same = record { each = λ c r. ap (λ (numbers : List ℕ). get_or numbers r none) (default_behind columns [] c) ∙ same.each c r }
 
 -- a column with other numbers
 numbers_there : (columns : List (List ℕ)) (column : ℕ) (numbers : List ℕ) → column < length columns → (r : ℕ) → number_in (set columns column numbers) column r ≡ get_or numbers r none
@@ -27,14 +10,6 @@ numbers_there columns column numbers known r = ap (λ (ns : List ℕ). get_or ns
 
 numbers_elsewhere : (columns : List (List ℕ)) (column c : ℕ) (numbers : List ℕ) → c ≢ column → (r : ℕ) → number_in (set columns column numbers) c r ≡ number_in columns c r
 numbers_elsewhere columns column c numbers differ r = ap (λ (ns : List ℕ). get_or ns r none) (get_or-set_other columns column c numbers [] differ)
-
-pub same_with_room : (columns : List (List ℕ)) (column : ℕ) (numbers : List ℕ) → column < length columns → ((r : ℕ) → get_or numbers r none ≡ number_in columns column r) → AreSameNumbers columns (set columns column numbers)
-same_with_room columns column numbers known same = record {
-  each = λ c r. elim (cases_eq c column) [
-    | inl here ↦ subst (λ (k : ℕ). number_in (set columns column numbers) k r ≡ number_in columns k r) (sym here) (numbers_there columns column numbers known r ∙ same r)
-    | inr differ ↦ numbers_elsewhere columns column c numbers differ r
-  ];
-}
 
 pub numbers_stay : (width : ℕ) (used : List ℕ) (columns after : List (List ℕ)) → AreSameNumbers columns after → AreNumbersBySlot width used columns → AreNumbersBySlot width used after
 numbers_stay width used columns after same h = record {
@@ -54,12 +29,6 @@ unused_at width used columns column row h lt is = record {
       let number : none ≡ n = sym is ∙ sym (ap₂ (number_in columns) left often) ∙ h.each n d known in
       omega (arith, number, known, h.few));
 }
-
-pub found_slot : (width slot : ℕ) (used : List ℕ) (found : Option ℕ) → IfSome found (IsPlaceOf used (slot / width * width + slot % width)) → IfSome found (IsPlaceOf used slot)
-found_slot width slot used found h = subst (λ (s : ℕ). IfSome found (IsPlaceOf used s)) (div-add-mod' slot width) h
-
-pub unused_slot : (width slot : ℕ) (used : List ℕ) (found : Option ℕ) → IfNone found (IsUnused used (slot / width * width + slot % width)) → IfNone found (IsUnused used slot)
-unused_slot width slot used found h = subst (λ (s : ℕ). IfNone found (IsUnused used s)) (div-add-mod' slot width) h
 
 -- ---- a slot gets the next number
 

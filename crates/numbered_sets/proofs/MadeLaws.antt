@@ -25,6 +25,9 @@ number_was vs ws v n longer known is = record {
 pub value_there : (vs : List PartValue) (n : ℕ) → n < length vs → (v : PartValue) × IsNumberOf vs v n
 value_there vs n lt = (get_or vs n (OfEvent false), record { known = lt; is = λ d. get_or_default vs n d (OfEvent false) lt })
 
+pub one_value : (vs : List PartValue) (v w : PartValue) (n : ℕ) → IsNumberOf vs v n → IsNumberOf vs w n → v ≡ w
+one_value vs v w n h k = sym (h.is v) ∙ k.is v
+
 module _ (becomes : PartValue → PartValue) where
   pub none_made : (vs : List PartValue) (old new : Numbers) → new ≡ numbers old.domain 0 → AreMade becomes vs old 0 new
   none_made vs old new is = subst (AreMade becomes vs old 0) (sym is) (record {

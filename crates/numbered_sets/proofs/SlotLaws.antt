@@ -99,22 +99,6 @@ column_there d first count slot c is low small at same = subst (λ (o : Option (
 pub place_there : (d : Domain) (first : BlockNo) (count : ℕ) (slot : ℕ) (p : SlotPlace) → blocks_of d ≡ Some (first, count) → p.offset < count → slot ≡ 1 + p.row * count + p.offset → IsSlotPlace d slot p
 place_there d first count slot p is lt same = subst (λ (o : Option (BlockNo × ℕ)). IsPlaceIn o slot p) (sym is) (lt, same)
 
-column_in : (o : Option (BlockNo × ℕ)) (c : BlockColumn) → IsColumnIn o c → c.column < width_of o
-column_in None c at = absurd at
-column_in (Some (first, zero)) c at = absurd (omega (arith, at.0))
-column_in (Some (first, suc n)) c at = at.0
-
-offset_in : (o : Option (BlockNo × ℕ)) (s : ℕ) (p : SlotPlace) → IsPlaceIn o s p → p.offset < width_of o
-offset_in None s p at = absurd at
-offset_in (Some (first, zero)) s p at = absurd (omega (arith, at.0))
-offset_in (Some (first, suc n)) s p at = at.0
-
-pub column_known : (d : Domain) (c : BlockColumn) → IsBlockColumn d c → c.column < slot_width d
-column_known d c at = column_in (blocks_of d) c at
-
-pub offset_known : (d : Domain) (s : ℕ) (p : SlotPlace) → IsSlotPlace d s p → p.offset < slot_width d
-offset_known d s p at = offset_in (blocks_of d) s p at
-
 -- the block of a slot has a number of 16 bits
 block_small : (first count : ℕ) (loads : List Load) (s : ℕ) → 0 < s → IsTaskSlot first count loads s → first + (s - 1) % count < 2 ^ 16
 block_small first count loads zero some known = absurd (omega (arith, some))

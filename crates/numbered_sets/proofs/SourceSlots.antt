@@ -3,14 +3,13 @@ use Rattle.std.proofs.{Common.{◌≡◌, ◌≢◌, ℕ, zero, suc, ◌+◌, �
 use Rattle.std.specs.Prelude.{Option, IfSome}
 use Rattle.std.proofs.{Math.Nat.{div-lt_iff_lt-mul}, lemmas.{Bool.{cases_lt}, List.{get_or_append_left}}}
 use Rattle.osek_values.specs.{Numbers.{block_no}, declared.numbers.{BlockNo.{BlockNo}, ResNo.{ResNo}}}
-use Rattle.osek_standard.specs.Validity.{IsAmong}
 use Rattle.abstract_state.specs.declared.value.{Val.{Val, TheVariants.{Live}}, LiveVal.{LiveVal}, SourceVal.{SourceVal}, RoutineVal.{RoutineVal}}
 use Rattle.abstract_state.specs.declared.value.SourceVal.TheVariants as source_val
 use Rattle.abstract_state.specs.Components.{live_val, routine_val}
 use Rattle.flow_model.specs.Values.{at_block, restacked_routine}
 use Rattle.numbered_sets.specs.declared.loads.Load.{Load}
 use Rattle.numbered_sets.specs.Slots.{in_row, in_source_row, routine_load, no_load, val_in, source_in, IsRoutineLoad, IsTaskSlot, IsSourceSlot, IsSlotInRow, IsTaskSlotOf, IsSourceSlotOf, IsLoadNumber, AreDistinct}
-use Rattle.numbered_sets.proofs.TaskSlots.{block_in, load_in, row_known, some_block, live_slot, no_load_slot, no_block_slot, in_other_block}
+use Rattle.numbered_sets.proofs.TaskSlots.{block_in, load_in, row_known, some_block, live_slot, no_load_slot, in_other_block}
 
 -- what a task would be with the same stack
 abbrev pub live_of : RoutineVal → LiveVal
@@ -45,10 +44,6 @@ source_row loads (suc k) b x e =
       subst (λ (m : ℕ). IsRoutineLoad (get_or loads m no_load)) same bare,
       ap₂ (λ (c : BlockNo) (held : List ResNo). source_val.In (routine_val c held)) block (ap (λ (z : Load). z.held) load),
     )
-
-in_row_is : (loads : List Load) (r : ℕ) (b : BlockNo) → 0 < r → in_source_row loads r b ≡ source_val.In (routine_val b (get_or loads (r - 1) no_load).held)
-in_row_is loads zero b some = absurd (omega (arith, some))
-in_row_is loads (suc k) b some = (let same : k ≡ suc k - 1 = omega arith in ap (λ (m : ℕ). source_val.In (routine_val b (get_or loads m no_load).held)) same)
 
 source_row_stays : (loads more : List Load) (r : ℕ) (b : BlockNo) → r < 1 + length loads → in_source_row (loads ++ more) r b ≡ in_source_row loads r b
 source_row_stays loads more zero b lt = refl
@@ -89,13 +84,6 @@ module _ (first count : ℕ) (loads : List Load) where
       let below = row_known n (1 + length loads) count known.2.0 in
       subst (λ (m : ℕ). m / count - 1 < length loads) less (omega (arith, behind, below))
 
-  pub source_is : (s : ℕ) → (s ≡ 0 → ⊥) → IsSourceSlot first count loads s → source_in first count loads s ≡ source_val.In (routine_val (block_no (first + (s - 1) % count)) (get_or loads ((s - 1) / count - 1) no_load).held)
-  source_is zero some known = absurd (some refl)
-  source_is (suc n) some known =
-      let less : n ≡ suc n - 1 = omega arith in
-      subst (λ (m : ℕ). source_in first count loads (suc n) ≡ source_val.In (routine_val (block_no (first + m % count)) (get_or loads (m / count - 1) no_load).held)) less
-      (in_row_is loads (n / count) (block_no (first + n % count)) (row_behind n known))
-
   live_there : (s : ℕ) (x : RoutineVal) → IsSourceSlot first count loads s → source_in first count loads s ≡ source_val.In x → val_in first count loads s ≡ Live (live_of x)
   live_there zero x known e = absurd (never_out x (sym e))
   live_there (suc n) x known e =
@@ -128,9 +116,6 @@ module _ (first count : ℕ) (loads : List Load) where
   -- a stack that no load has stands in no slot, and neither does a block that isn't the routine's
   pub no_stack_slot : (x : RoutineVal) → ((k : ℕ) → k < length loads → get_or loads k no_load ≢ routine_load x) → (s : ℕ) → IsSourceSlot first count loads s → source_in first count loads s ≢ source_val.In x
   no_stack_slot x none s known e = no_load_slot first count loads (live_of x) none s (task_slot s known) (live_there s x known e)
-
-  pub no_place_slot : (x : RoutineVal) → (IsAmong x.block.0 first count → ⊥) → (s : ℕ) → IsSourceSlot first count loads s → source_in first count loads s ≢ source_val.In x
-  no_place_slot x none s known e = no_block_slot first count loads (live_of x) none s (task_slot s known) (live_there s x known e)
 
   -- the slot at another block
   pub source_moved : (n : ℕ) (block : BlockNo) (found : Option ℕ) → AreDistinct loads → IsSourceSlot first count loads (suc n) → block.0 < 2 ^ 16 → IfSome found (IsSlotInRow first count (n / count) block.0)

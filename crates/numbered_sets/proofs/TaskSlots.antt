@@ -2,9 +2,8 @@
 use Rattle.std.proofs.Common.{◌≡◌, ◌≢◌, ℕ, zero, suc, ◌+◌, ◌-◌, ◌*◌, ◌/◌, ◌%◌, ◌^◌, ◌<◌, List, ◌++◌, length, get_or, refl, sym, ap, ap₂, subst, ◌∙◌, arith}
 use Rattle.std.specs.Prelude.{Option, Some, None, IfSome}
 use Rattle.std.proofs.Math.Nat.{div-lt_iff_lt-mul, div-add-mod, mul_comm}
-use Rattle.std.proofs.lemmas.{Nat.{div-mul-add, mod_below, mod-mul-add}, List.{get_or_append_left}}
+use Rattle.std.proofs.lemmas.{Nat.{div-mul-add, mod-mul-add}, List.{get_or_append_left}}
 use Rattle.osek_values.specs.{Numbers.{block_no}, declared.numbers.BlockNo.{BlockNo}}
-use Rattle.osek_standard.specs.Validity.{IsAmong}
 use Rattle.abstract_state.specs.declared.value.{Val.{Val, TheVariants.{Suspended, Live, Waiting}}, LiveVal.{LiveVal}}
 use Rattle.flow_model.specs.Values.{at_block}
 use Rattle.numbered_sets.specs.{declared.loads.Load.{Load}, Slots.{carrying, in_row, load_of, no_load, val_in, IsTaskSlot, IsSlotInRow, IsTaskSlotOf, IsLoadNumber, AreDistinct}}
@@ -120,15 +119,6 @@ no_load_slot first count loads x none (suc n) known e =
     let row = load_of_row loads (n / count) (block_no (first + n % count)) x e in
     let below = row_known n (1 + length loads) count known.0 in
     none row.0 (omega (arith, below, row.1)) row.2
-
--- neither does one at a block that isn't the task's
-pub no_block_slot : (first count : ℕ) (loads : List Load) (x : LiveVal) → (IsAmong x.block.0 first count → ⊥) → (s : ℕ) → IsTaskSlot first count loads s → val_in first count loads s ≢ Live x
-no_block_slot first count loads x none zero known e = absurd (cc)
-no_block_slot first count loads x none (suc n) known e =
-    let same : block_no (first + n % count) ≡ x.block = sym (block_of_row loads (n / count) (block_no (first + n % count))) ∙ ap block_in e in
-    let number : first + n % count ≡ x.block.0 = ap (λ (b : BlockNo). b.0) same in
-    let below : n % count < count = mod_below n count (some_block n (1 + length loads) count known.0) in
-    none (omega (arith, number), omega (arith, number, below))
 
 -- what a search for the slot found
 pub waiting_slot : (first count : ℕ) (loads : List Load) (block : BlockNo) (found : Option ℕ) → block.0 < 2 ^ 16 → IfSome found (IsSlotInRow first count 0 block.0) → IfSome found (IsTaskSlotOf first count loads (Waiting block))

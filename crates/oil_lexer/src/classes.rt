@@ -5,7 +5,7 @@ ghost use Rattle.oil_lexer.specs.{Classes.{mark_of, class_of, is_in}, Fronts.{Is
 use crate::token::Mark;
 
 /// What a byte begins.
-#[derive(Clone, Copy, Debug, PartialEq, Eq)]
+#[derive(Clone, Copy)]
 pub enum Class {
     Blank,
     Letter,
@@ -17,7 +17,7 @@ pub enum Class {
 }
 
 /// A set of bytes.
-#[derive(Clone, Copy, Debug, PartialEq, Eq)]
+#[derive(Clone, Copy)]
 pub enum ByteSet {
     NameBytes,
     Digits,

@@ -10,7 +10,7 @@ use std::marker::Model;
 
 /// The tokens of a text that are still ahead, which contracts see as the list of them. Each is read from the text when
 /// it is asked for, and none is kept.
-#[derive(Debug, Drop)]
+#[derive(Drop)]
 pub struct Tokens<'a> {
     rest: &'a [u8],
     line: u32,

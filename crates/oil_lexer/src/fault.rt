@@ -10,7 +10,7 @@ use osek_values::{LineFault, Refused, SyntaxRule};
 pub type SyntaxFault = LineFault<SyntaxRule>;
 
 /// Where reading stops.
-#[derive(Clone, Copy, Debug, PartialEq, Eq)]
+#[derive(Clone, Copy)]
 pub enum Stop {
     /// At a token that isn't allowed, with its line.
     NotAllowed(u32),

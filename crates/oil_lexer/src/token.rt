@@ -7,7 +7,7 @@ use std::alloc::Global;
 use std::marker::Model;
 
 /// The marks of OIL and of task code.
-#[derive(Clone, Copy, Debug, PartialEq, Eq)]
+#[derive(Clone, Copy)]
 pub enum Mark {
     /// `{`
     OpenBrace,
@@ -42,7 +42,7 @@ pub enum Mark {
 }
 
 /// A name as it stands in a text. Contracts see its bytes.
-#[derive(Debug, Drop)]
+#[derive(Drop)]
 pub struct Word<'a> {
     bytes: &'a [u8],
 }
@@ -85,7 +85,7 @@ impl<'a> Word<'a> {
 }
 
 /// The bytes between the quotation marks of a text, as they stand there.
-#[derive(Debug, Drop)]
+#[derive(Drop)]
 pub struct Quoted<'a> {
     bytes: &'a [u8],
 }
@@ -122,7 +122,7 @@ impl<'a> Quoted<'a> {
 }
 
 /// What a token is, and its value: `16` and `0x10` are the same.
-#[derive(Debug, Drop)]
+#[derive(Drop)]
 pub enum TokenKind<'a> {
     /// A name, which may be a word of the grammar.
     Name(Word<'a>),
@@ -133,7 +133,7 @@ pub enum TokenKind<'a> {
 }
 
 /// A token.
-#[derive(Debug, Drop)]
+#[derive(Drop)]
 pub struct Token<'a> {
     pub kind: TokenKind<'a>,
     /// The line of its first byte, from 1 on.
@@ -141,7 +141,7 @@ pub struct Token<'a> {
 }
 
 /// What stands at the front of a text: a blank or a comment, or a token.
-#[derive(Debug, Drop)]
+#[derive(Drop)]
 pub enum Piece<'a> {
     Gap,
     Whole(TokenKind<'a>),

@@ -1,6 +1,7 @@
 -- Objects with no two the same, where nothing is repeated.
 use Rattle.std.proofs.Common.{◌≡◌, List, [], ◌∷◌, ◌++◌, map, Bool, true, false, ◌&&◌, ◌||◌, refl, sym, ap, ◌∙◌, subst, append_assoc}
 use Rattle.std.specs.{Prelude.{if◌then◌else◌, filter, cond}, Cmp.{IsEquivalence}, List.{AllByRecursion, IsDistinct, list_any}}
+use Rattle.std.proofs.lemmas.List.{append-nil}
 use Rattle.std.proofs.lemmas.Map.Keys.{IsDistinct-push, IsDistinct-cons, IsDistinct-head, IsDistinct-tail}
 use Rattle.oil_model.specs.Rules.{repeated}
 use Rattle.oil_model.proofs.Clean.{left_empty, right_empty, mark_empty}
@@ -18,13 +19,9 @@ module _ {X K : Type 0} (key : X → K) (eq : K → K → Bool) where
   any_map laws x [] = refl
   any_map laws x (y ∷ xs) = λ i. laws.symm (key x) (key y) i || any_map laws x xs i
 
-  append_none : (xs : List X) → xs ++ [] ≡ xs
-  append_none [] = refl
-  append_none (x ∷ xs) = ap (λ (t : List X). x ∷ t) (append_none xs)
-
   -- what isn't repeated is distinct
   pub distinct_from : (laws : IsEquivalence eq) (before xs : List X) → repeated same_key before xs ≡ [] → IsDistinct eq (map key before) → IsDistinct eq (map key (before ++ xs))
-  distinct_from laws before [] e d = subst (λ (ys : List X). IsDistinct eq (map key ys)) (sym (append_none before)) d
+  distinct_from laws before [] e d = subst (λ (ys : List X). IsDistinct eq (map key ys)) (sym (append-nil before)) d
   distinct_from laws before (x ∷ xs) e d =
       let later : List X = repeated same_key (before ++ x ∷ []) xs in
       let mark : List X = if list_any (same_key x) before then x ∷ [] else [] in

@@ -1,9 +1,10 @@
 -- The system of a tree without a fault can be linked.
-use Rattle.std.proofs.Common.{inl, inr, ◌≡◌, ℕ, zero, suc, ◌+◌, ◌<◌, ◌≤◌, ◌^◌, List, [], ◌∷◌, ◌++◌, length, map, Bool, true, false, refl, sym, ap, ◌∙◌, subst, arith, rules, IsTrue}
+use Rattle.std.proofs.Common.{inl, inr, ◌≡◌, ℕ, suc, ◌+◌, ◌<◌, ◌≤◌, ◌^◌, List, [], ◌∷◌, ◌++◌, length, map, Bool, true, false, refl, sym, ap, ◌∙◌, subst, arith, rules, IsTrue}
 use Rattle.std.specs.Prelude.{Option, Some, None, if◌then◌else◌, cond, not, ◌&&◌, ◌||◌, codes, filter, nat_le, nat_lt, ◌==◌, slice_index_or, bit_or, All}
 use Rattle.std.specs.{List.{AllByRecursion, IsDistinct, list_any}, Str.{bytes_eq}}
-use Rattle.std.proofs.lemmas.{Bool.Decides.{nat_tests}, Cmp.{nat_list_eq_equiv}, Map.Keys.{IsDistinct-push, IsDistinct-cons, IsDistinct-head, IsDistinct-tail}}
+use Rattle.std.proofs.lemmas.{Bool.Decides.{nat_tests}, Cmp.{nat_list_eq_equiv}, List.{append-nil, Elements.{All-from_recursion, recursion_from_All}}, Simd.{map-map}, Map.Keys.{IsDistinct-push, IsDistinct-cons, IsDistinct-head, IsDistinct-tail}}
 use Rattle.osek_values.specs.{Names.{is_name, AreNames}, Numbers.{res_no}, declared.{numbers.ResNo.{ResNo}, refusal.OilRule.TheVariants.{O2, O4, O6, O7, O9, O11, O12, O13, O14}}}
+use Rattle.osek_values.proofs.Lists.{each_append, each_map, none_distinct}
 use Rattle.oil_system.specs.declared.{objects.{Alarm.{Alarm}, Resource.{Resource}}, system.{TaskObject.{TaskObject}, IsrObject.{IsrObject}, CounterObject.{CounterObject}, EventObject.{EventObject}}}
 use Rattle.oil_model.specs.{declared.objects.Category.TheVariants.{One, Two}, Linkable.{no_counter_object, no_resource_object, is_cycle_of_object, IsActionAmong, IsAlarmAmong, IsInternalAmong, IsLinkable}}
 use Rattle.oil_tree.specs.{AttrLists.{attr_list}, declared.tree.{Attr.{Attr}, Object.{Object}, Tree.{Tree}}}
@@ -18,34 +19,9 @@ use Rattle.oil_model.proofs.{Distinct.{distinct_from, distinct_kept, all_kept}, 
 use Rattle.oil_model.proofs.{WithinLimits.{IsWithinLimits, within_limits, few_modes, few_resources, length-map}, Referring.{RefersToDeclared, IsSoundAlarm, sound_list, sound_alarm}}
 use Rattle.oil_model.proofs.{Bits.{known_hooks, autostart_below, no_start, ceiling_small, interrupt_ceiling_small}, Numbers.{IsAt, at_number, not_zero, mask_some}}
 
-none_distinct : {K : Type 0} (eq : K → K → Bool) → IsDistinct eq []
-unfolding IsDistinct
-none_distinct eq = tt
-
--- by index
-by_index : {X : Type 0} (P : X → Type 0) (xs : List X) (k : ℕ) (d : X) → AllByRecursion P xs → k < length xs → P (slice_index_or xs k d)
-by_index P [] k d h lt = absurd (omega (arith, lt))
-by_index P (x ∷ xs) zero d h lt = h.0
-by_index P (x ∷ xs) (suc k) d h lt = by_index P xs k d h.1 (omega (arith, lt))
-
-all : {X : Type 0} (P : X → Type 0) (xs : List X) → AllByRecursion P xs → All P xs
-all P xs h = λ k d lt. by_index P xs k d h lt
-
-all_map : {X Y : Type 0} (P : Y → Type 0) (f : X → Y) (xs : List X) → AllByRecursion (λ (x : X). P (f x)) xs → AllByRecursion P (map f xs)
-all_map P f [] h = tt
-all_map P f (x ∷ xs) h = (h.0, all_map P f xs h.1)
-
 unmapped : {X Y : Type 0} (f : X → Y) (P : Y → Type 0) (xs : List X) → AllByRecursion P (map f xs) → AllByRecursion (λ (x : X). P (f x)) xs
 unmapped f P [] h = tt
 unmapped f P (x ∷ xs) h = (h.0, unmapped f P xs h.1)
-
-by_recursion : {X : Type 0} (P : X → Type 0) (xs : List X) → All P xs → AllByRecursion P xs
-by_recursion P [] h = tt
-by_recursion P (x ∷ xs) h = let some : 0 < length (x ∷ xs) = omega arith in (h 0 x some, by_recursion P xs (λ k d lt. let more : suc k < length (x ∷ xs) = omega (arith, lt) in h (suc k) d more))
-
-map-map : {X Y Z : Type 0} (g : Y → Z) (f : X → Y) (xs : List X) → map g (map f xs) ≡ map (λ (x : X). g (f x)) xs
-map-map g f [] = refl
-map-map {X} {Y} {Z} g f (x ∷ xs) = ap (λ (zs : List Z). g (f x) ∷ zs) (map-map g f xs)
 
 and_first : (a b : Bool) → (a && b) ≡ true → IsTrue a
 and_first true b e = refl
@@ -68,7 +44,7 @@ IsNamed o = IsTrue (is_name o.name)
 
 -- the names of some objects, each a name and no two the same
 are_names : (objects : List Object) → AllByRecursion IsNamed objects → IsDistinct bytes_eq (map name_of objects) → AreNames (map name_of objects)
-are_names objects named distinct = record { each = all (λ (n : List ℕ). IsTrue (is_name n)) (map name_of objects) (all_map (λ (n : List ℕ). IsTrue (is_name n)) name_of objects named); distinct = distinct }
+are_names objects named distinct = record { each = All-from_recursion (λ (n : List ℕ). IsTrue (is_name n)) (map name_of objects) (each_map (λ (n : List ℕ). IsTrue (is_name n)) name_of objects named); distinct = distinct }
 
 names_of_entries : {Y : Type 0} (f : Object → Y) (name : Y → List ℕ) (objects : List Object) → ((o : Object) → name (f o) ≡ o.name) → AreNames (map name_of objects) → AreNames (map name (map f objects))
 names_of_entries {Y} f name objects same h = subst AreNames (sym (map-map name f objects ∙ (λ i. map (λ (o : Object). same o i) objects))) h
@@ -102,8 +78,8 @@ module _ (objects : List Object) (named : AllByRecursion IsNamed objects) where
       let others = names_by_test (codes "APPMODE") (λ (o : Object). not (is_called (codes "OSDEFAULTAPPMODE") o)) e in
       let apart : AllByRecursion (λ (o : Object). bytes_eq (codes "OSDEFAULTAPPMODE") o.name ≡ false) (filter is_other_mode objects) = all_filtered (λ (o : Object). bytes_eq (codes "OSDEFAULTAPPMODE") o.name ≡ false) IsNamed is_other_mode objects (λ o t h. nat_list_eq_equiv.symm (codes "OSDEFAULTAPPMODE") o.name ∙ not_true (is_called (codes "OSDEFAULTAPPMODE") o) (and_second (is_kind (codes "APPMODE") o) (not (is_called (codes "OSDEFAULTAPPMODE") o)) t)) named in
       record {
-        each = all (λ (n : List ℕ). IsTrue (is_name n)) (modes objects) (search rules, by_recursion (λ (n : List ℕ). IsTrue (is_name n)) (map name_of (filter is_other_mode objects)) others.each);
-        distinct = IsDistinct-cons bytes_eq (codes "OSDEFAULTAPPMODE") (map name_of (filter is_other_mode objects)) (all_map (λ (n : List ℕ). bytes_eq (codes "OSDEFAULTAPPMODE") n ≡ false) name_of (filter is_other_mode objects) apart) others.distinct;
+        each = All-from_recursion (λ (n : List ℕ). IsTrue (is_name n)) (modes objects) (search rules, recursion_from_All (λ (n : List ℕ). IsTrue (is_name n)) (map name_of (filter is_other_mode objects)) others.each);
+        distinct = IsDistinct-cons bytes_eq (codes "OSDEFAULTAPPMODE") (map name_of (filter is_other_mode objects)) (each_map (λ (n : List ℕ). bytes_eq (codes "OSDEFAULTAPPMODE") n ≡ false) name_of (filter is_other_mode objects) apart) others.distinct;
       }
 
 abbrev resource_name : Resource → List ℕ
@@ -112,10 +88,6 @@ resource_name r = r.name
 map-push : (xs : List Resource) (r : Resource) → map resource_name (xs ++ r ∷ []) ≡ map resource_name xs ++ r.name ∷ []
 map-push [] r = refl
 map-push (x ∷ xs) r = ap (λ (ns : List (List ℕ)). x.name ∷ ns) (map-push xs r)
-
-append-none : (xs : List Resource) → xs ++ [] ≡ xs
-append-none [] = refl
-append-none (x ∷ xs) = ap (λ (t : List Resource). x ∷ t) (append-none xs)
 
 all-push : (P : List ℕ → Type 0) (xs : List (List ℕ)) (n : List ℕ) → AllByRecursion P xs → P n → AllByRecursion P (xs ++ n ∷ [])
 all-push P [] n h k = (k, tt)
@@ -129,16 +101,12 @@ with_scheduler : (exists : Bool) (tasks isrs others : List Object) → AllByRecu
 with_scheduler true tasks isrs others named distinct apart =
     let names : map resource_name (map (resource tasks isrs) others ++ scheduler tasks ∷ []) ≡ map name_of others ++ codes "RES_SCHEDULER" ∷ [] = map-push (map (resource tasks isrs) others) (scheduler tasks) ∙ (λ i. map-map resource_name (resource tasks isrs) others i ++ codes "RES_SCHEDULER" ∷ []) in
     subst AreNames (sym names) (record {
-      each = all (λ (n : List ℕ). IsTrue (is_name n)) (map name_of others ++ codes "RES_SCHEDULER" ∷ []) (all-push (λ (n : List ℕ). IsTrue (is_name n)) (map name_of others) (codes "RES_SCHEDULER") (all_map (λ (n : List ℕ). IsTrue (is_name n)) name_of others named) (search rules));
+      each = All-from_recursion (λ (n : List ℕ). IsTrue (is_name n)) (map name_of others ++ codes "RES_SCHEDULER" ∷ []) (all-push (λ (n : List ℕ). IsTrue (is_name n)) (map name_of others) (codes "RES_SCHEDULER") (each_map (λ (n : List ℕ). IsTrue (is_name n)) name_of others named) (search rules));
       distinct = IsDistinct-push nat_list_eq_equiv (map name_of others) (codes "RES_SCHEDULER") distinct (apart refl);
     })
 with_scheduler false tasks isrs others named distinct apart =
-    let names : map resource_name (map (resource tasks isrs) others ++ []) ≡ map name_of others = ap (map resource_name) (append-none (map (resource tasks isrs) others)) ∙ map-map resource_name (resource tasks isrs) others in
+    let names : map resource_name (map (resource tasks isrs) others ++ []) ≡ map name_of others = ap (map resource_name) (append-nil (map (resource tasks isrs) others)) ∙ map-map resource_name (resource tasks isrs) others in
     subst AreNames (sym names) (are_names others named distinct)
-
-all-append : {X : Type 0} (P : X → Type 0) (xs ys : List X) → AllByRecursion P xs → AllByRecursion P ys → AllByRecursion P (xs ++ ys)
-all-append P [] ys h k = k
-all-append P (x ∷ xs) ys h k = (h.0, all-append P xs ys h.1 k)
 
 scheduler_small : (exists : Bool) (tasks : List Object) → AllByRecursion (λ (o : Object). priority o ≤ 65535) tasks → AllByRecursion (λ (r : Resource). r.ceiling ≤ 131071) (if exists then scheduler tasks ∷ [] else [])
 scheduler_small true tasks h = (let le = ceiling_small tasks h in omega (arith, le), tt)
@@ -153,8 +121,8 @@ beside_small false n tasks h = let le = ceiling_small tasks h in omega (arith, l
 
 ceilings_small : (exists : Bool) (tasks isrs others : List Object) → AllByRecursion (λ (o : Object). priority o ≤ 65535) tasks → AllByRecursion (λ (r : Resource). r.ceiling ≤ 131071) (map (resource tasks isrs) others ++ (if exists then scheduler tasks ∷ [] else []))
 ceilings_small exists tasks isrs others h =
-    all-append (λ (r : Resource). r.ceiling ≤ 131071) (map (resource tasks isrs) others) (if exists then scheduler tasks ∷ [] else [])
-    (all_map (λ (r : Resource). r.ceiling ≤ 131071) (resource tasks isrs) others (each others))
+    each_append (λ (r : Resource). r.ceiling ≤ 131071) (map (resource tasks isrs) others) (if exists then scheduler tasks ∷ [] else [])
+    (each_map (λ (r : Resource). r.ceiling ≤ 131071) (resource tasks isrs) others (each others))
     (scheduler_small exists tasks h)
   where
     each : (xs : List Object) → AllByRecursion (λ (o : Object). ceiling_beside (interrupt_ceiling o.name isrs) o.name tasks ≤ 131071) xs
@@ -167,8 +135,8 @@ interrupts_of_scheduler false tasks = tt
 
 interrupt_ceilings_small : (exists : Bool) (tasks isrs others : List Object) → AllByRecursion (λ (o : Object). priority o ≤ 255) isrs → AllByRecursion (λ (r : Resource). r.interrupt_ceiling ≤ 256) (map (resource tasks isrs) others ++ (if exists then scheduler tasks ∷ [] else []))
 interrupt_ceilings_small exists tasks isrs others h =
-    all-append (λ (r : Resource). r.interrupt_ceiling ≤ 256) (map (resource tasks isrs) others) (if exists then scheduler tasks ∷ [] else [])
-    (all_map (λ (r : Resource). r.interrupt_ceiling ≤ 256) (resource tasks isrs) others (each others))
+    each_append (λ (r : Resource). r.interrupt_ceiling ≤ 256) (map (resource tasks isrs) others) (if exists then scheduler tasks ∷ [] else [])
+    (each_map (λ (r : Resource). r.interrupt_ceiling ≤ 256) (resource tasks isrs) others (each others))
     (interrupts_of_scheduler exists tasks)
   where
     each : (xs : List Object) → AllByRecursion (λ (o : Object). interrupt_ceiling o.name isrs ≤ 256) xs
@@ -209,7 +177,7 @@ each_of f (x ∷ xs) = (f x, each_of f xs)
 ordinary_apart : (objects : List Object) → AllByRecursion IsNamed objects → (exists : Bool) → exists ≡ true → list_any (bytes_eq (codes "RES_SCHEDULER")) (map name_of (filter (is_ordinary exists) objects)) ≡ false
 ordinary_apart objects named exists e =
     none-any (codes "RES_SCHEDULER") (map name_of (filter (is_ordinary exists) objects))
-    (all_map (λ (n : List ℕ). bytes_eq (codes "RES_SCHEDULER") n ≡ false) name_of (filter (is_ordinary exists) objects)
+    (each_map (λ (n : List ℕ). bytes_eq (codes "RES_SCHEDULER") n ≡ false) name_of (filter (is_ordinary exists) objects)
     (all_filtered (λ (o : Object). bytes_eq (codes "RES_SCHEDULER") o.name ≡ false) IsNamed (is_ordinary exists) objects
     (λ o t n. nat_list_eq_equiv.symm (codes "RES_SCHEDULER") o.name ∙ not_both exists (is_called (codes "RES_SCHEDULER") o) e (and_second (is_kind (codes "RESOURCE") o) (not (exists && is_called (codes "RES_SCHEDULER") o)) t))
     named))
@@ -331,7 +299,7 @@ sound_alarms t h =
 pub linkable : (t : Tree) → All (λ (o : Object). IsTrue (is_name o.name)) t.objects → HasNoFault t → IsLinkable (system_of t.objects)
 linkable t each h =
     let objects : List Object = t.objects in
-    let named : AllByRecursion IsNamed objects = by_recursion IsNamed objects each in
+    let named : AllByRecursion IsNamed objects = recursion_from_All IsNamed objects each in
     let same = eight objects (no_line (all_repeated_names objects) (h O2)) in
     let wrong : found_in wrong_in objects ≡ [] = no_line (found_in wrong_in objects) (h O6) in
     let late : late_times objects ≡ [] = no_line (late_times objects) (h O14) in
@@ -375,17 +343,17 @@ linkable t each h =
       mode_names = mode_names objects named same.1.0;
       event_names = subst AreNames (sym (lookup_masks used (objects_of (codes "EVENT") objects))) (names_by_kind objects named (codes "EVENT") same.1.1.1.1.1.1.0);
       category_1_names = names_by_test objects named (codes "ISR") (has_category 1) same.1.1.1.0;
-      isrs_apart = all _ _ (all_map (λ (x : IsrObject). list_any (bytes_eq x.name) (map name_of (filter (is_isr One) objects)) ≡ false) isr isrs (unmapped name_of (λ (n : List ℕ). list_any (bytes_eq n) (map name_of (filter (is_isr One) objects)) ≡ false) isrs (isrs_apart objects (distinct_names objects named (codes "ISR") same.1.1.1.0))));
-      isr_priorities = all _ _ (all_map (λ (x : IsrObject). x.priority < 256) isr isrs (all_weaker (λ (o : Object). priority o < 256) (λ (o : Object). priority o ≤ 255) isrs (λ o q. omega (arith, q)) small_isrs));
-      activations = all _ _ (all_map (λ (x : TaskObject). (1 ≤ x.activation) × (x.activation ≤ 255)) the_task tasks (all_weaker (λ (o : Object). (1 ≤ activation o) × (activation o ≤ 255)) IsActivated tasks (λ o q. in_activations (has (codes "EVENT") (attr_list o.attrs)) (activation o) q) activations));
-      extended_once = all _ _ (all_map (λ (x : TaskObject). 0 < x.own.0 → x.activation ≡ 1) the_task tasks (all_weaker (λ (o : Object). 0 < own_bits 0 (events objects) (attr_list o.attrs) → activation o ≡ 1) IsActivated tasks (λ o q. extended_once (events objects) (attr_list o.attrs) (activation o) q) activations));
-      internals = all _ _ (all_map (λ (x : TaskObject). IsInternalAmong (resources objects) x.internal) the_task tasks (each_of (λ (o : Object). internal_among (resources objects) (attr_list o.attrs)) tasks));
-      task_starts = all _ _ (all_map (λ (x : TaskObject). x.autostart < 2 ^ length (modes objects)) the_task tasks (each_of (λ (o : Object). autostart_below (modes objects) (attr_list o.attrs) some) tasks));
-      each_counter = all _ _ (all_map (λ (x : CounterObject). (1 ≤ x.max) × (x.min_cycle ≤ x.max)) counter counters (all_weaker (λ (o : Object). (1 ≤ maximum (attr_list o.attrs)) × (minimum (attr_list o.attrs) ≤ maximum (attr_list o.attrs))) (λ (o : Object). IsMaximum (attr_list o.attrs) × (minimum (attr_list o.attrs) ≤ maximum (attr_list o.attrs))) counters (λ o q. (q.0.0, q.1)) (all_both (λ (o : Object). IsMaximum (attr_list o.attrs)) (λ (o : Object). minimum (attr_list o.attrs) ≤ maximum (attr_list o.attrs)) counters (maxima objects wrong) (minima objects late))));
-      each_alarm = all _ _ (all_map (IsAlarmAmong (length (map the_task tasks)) (map counter counters)) the_alarm alarms (all_weaker (λ (o : Object). IsAlarmAmong (length (map the_task tasks)) (map counter counters) (the_alarm o)) (λ (o : Object). IsSoundAlarm objects (attr_list o.attrs) × IsInTime (counter_of objects o) (attr_list o.attrs)) alarms (λ o q. alarm_among objects limits o masks q.0 q.1) (all_both (λ (o : Object). IsSoundAlarm objects (attr_list o.attrs)) (λ (o : Object). IsInTime (counter_of objects o) (attr_list o.attrs)) alarms (sound_alarms t h) (times objects late))));
-      alarm_starts = all _ _ (all_map (λ (x : Alarm). x.autostart < 2 ^ length (modes objects)) the_alarm alarms (each_of (λ (o : Object). autostart_below (modes objects) (attr_list o.attrs) some) alarms));
-      no_starts = all _ _ (all_map (λ (x : Alarm). x.autostart ≡ 0 → (x.time ≡ 0) × (x.cycle ≡ 0)) the_alarm alarms (each_of (λ (o : Object). no_start (modes objects) (attr_list o.attrs) some) alarms));
-      ceilings = all _ _ (ceilings_small (has_scheduler objects) tasks isrs (filter (is_ordinary (has_scheduler objects)) objects) small);
-      interrupt_ceilings = all _ _ (interrupt_ceilings_small (has_scheduler objects) tasks isrs (filter (is_ordinary (has_scheduler objects)) objects) small_isrs);
-      each_event = all _ _ (all_masked used (objects_of (codes "EVENT") objects) masks);
+      isrs_apart = All-from_recursion _ _ (each_map (λ (x : IsrObject). list_any (bytes_eq x.name) (map name_of (filter (is_isr One) objects)) ≡ false) isr isrs (unmapped name_of (λ (n : List ℕ). list_any (bytes_eq n) (map name_of (filter (is_isr One) objects)) ≡ false) isrs (isrs_apart objects (distinct_names objects named (codes "ISR") same.1.1.1.0))));
+      isr_priorities = All-from_recursion _ _ (each_map (λ (x : IsrObject). x.priority < 256) isr isrs (all_weaker (λ (o : Object). priority o < 256) (λ (o : Object). priority o ≤ 255) isrs (λ o q. omega (arith, q)) small_isrs));
+      activations = All-from_recursion _ _ (each_map (λ (x : TaskObject). (1 ≤ x.activation) × (x.activation ≤ 255)) the_task tasks (all_weaker (λ (o : Object). (1 ≤ activation o) × (activation o ≤ 255)) IsActivated tasks (λ o q. in_activations (has (codes "EVENT") (attr_list o.attrs)) (activation o) q) activations));
+      extended_once = All-from_recursion _ _ (each_map (λ (x : TaskObject). 0 < x.own.0 → x.activation ≡ 1) the_task tasks (all_weaker (λ (o : Object). 0 < own_bits 0 (events objects) (attr_list o.attrs) → activation o ≡ 1) IsActivated tasks (λ o q. extended_once (events objects) (attr_list o.attrs) (activation o) q) activations));
+      internals = All-from_recursion _ _ (each_map (λ (x : TaskObject). IsInternalAmong (resources objects) x.internal) the_task tasks (each_of (λ (o : Object). internal_among (resources objects) (attr_list o.attrs)) tasks));
+      task_starts = All-from_recursion _ _ (each_map (λ (x : TaskObject). x.autostart < 2 ^ length (modes objects)) the_task tasks (each_of (λ (o : Object). autostart_below (modes objects) (attr_list o.attrs) some) tasks));
+      each_counter = All-from_recursion _ _ (each_map (λ (x : CounterObject). (1 ≤ x.max) × (x.min_cycle ≤ x.max)) counter counters (all_weaker (λ (o : Object). (1 ≤ maximum (attr_list o.attrs)) × (minimum (attr_list o.attrs) ≤ maximum (attr_list o.attrs))) (λ (o : Object). IsMaximum (attr_list o.attrs) × (minimum (attr_list o.attrs) ≤ maximum (attr_list o.attrs))) counters (λ o q. (q.0.0, q.1)) (all_both (λ (o : Object). IsMaximum (attr_list o.attrs)) (λ (o : Object). minimum (attr_list o.attrs) ≤ maximum (attr_list o.attrs)) counters (maxima objects wrong) (minima objects late))));
+      each_alarm = All-from_recursion _ _ (each_map (IsAlarmAmong (length (map the_task tasks)) (map counter counters)) the_alarm alarms (all_weaker (λ (o : Object). IsAlarmAmong (length (map the_task tasks)) (map counter counters) (the_alarm o)) (λ (o : Object). IsSoundAlarm objects (attr_list o.attrs) × IsInTime (counter_of objects o) (attr_list o.attrs)) alarms (λ o q. alarm_among objects limits o masks q.0 q.1) (all_both (λ (o : Object). IsSoundAlarm objects (attr_list o.attrs)) (λ (o : Object). IsInTime (counter_of objects o) (attr_list o.attrs)) alarms (sound_alarms t h) (times objects late))));
+      alarm_starts = All-from_recursion _ _ (each_map (λ (x : Alarm). x.autostart < 2 ^ length (modes objects)) the_alarm alarms (each_of (λ (o : Object). autostart_below (modes objects) (attr_list o.attrs) some) alarms));
+      no_starts = All-from_recursion _ _ (each_map (λ (x : Alarm). x.autostart ≡ 0 → (x.time ≡ 0) × (x.cycle ≡ 0)) the_alarm alarms (each_of (λ (o : Object). no_start (modes objects) (attr_list o.attrs) some) alarms));
+      ceilings = All-from_recursion _ _ (ceilings_small (has_scheduler objects) tasks isrs (filter (is_ordinary (has_scheduler objects)) objects) small);
+      interrupt_ceilings = All-from_recursion _ _ (interrupt_ceilings_small (has_scheduler objects) tasks isrs (filter (is_ordinary (has_scheduler objects)) objects) small_isrs);
+      each_event = All-from_recursion _ _ (all_masked used (objects_of (codes "EVENT") objects) masks);
     }

@@ -7,7 +7,7 @@ use crate::names::same;
 use oil_tree::{Sign, Value};
 
 /// A set of values.
-#[derive(Clone, Copy, Debug, PartialEq, Eq)]
+#[derive(Clone, Copy)]
 pub enum Domain {
     /// TRUE, FALSE.
     Truth,

@@ -9,7 +9,7 @@ use crate::names::same;
 use oil_tree::Value;
 
 /// What a list of attributes describes: an object of a kind, or what an attribute says more of.
-#[derive(Clone, Copy, Debug, PartialEq, Eq)]
+#[derive(Clone, Copy)]
 pub enum Scope {
     Os,
     AppMode,
@@ -30,7 +30,7 @@ pub enum Scope {
 }
 
 /// How often an attribute may stand in a list.
-#[derive(Clone, Copy, Debug, PartialEq, Eq)]
+#[derive(Clone, Copy)]
 pub enum Presence {
     /// Once.
     Required,
@@ -41,7 +41,7 @@ pub enum Presence {
 }
 
 /// What the table says of a name.
-#[derive(Clone, Copy, Debug, PartialEq, Eq)]
+#[derive(Clone, Copy)]
 pub struct Entry {
     pub domain: Domain,
     pub presence: Presence,

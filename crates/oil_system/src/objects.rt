@@ -2,21 +2,21 @@
 use osek_values::{CounterNo, Mask, Name, TaskNo};
 
 /// How a task may be preempted (ISO 17356-3, scheduling policy).
-#[derive(Clone, Copy, PartialEq, Eq, Debug)]
+#[derive(Clone, Copy)]
 pub enum Schedule {
     Non,
     Full,
 }
 
 /// What an alarm does when it expires.
-#[derive(Clone, Copy, PartialEq, Eq, Debug)]
+#[derive(Clone, Copy, PartialEq, Eq)]
 pub enum Action {
     ActivateTask(TaskNo),
     SetEvent(TaskNo, Mask),
 }
 
 /// An alarm. Its time and cycle, in ticks, are those of its autostart, and 0 where it is autostarted in no mode.
-#[derive(Debug, Drop)]
+#[derive(Drop)]
 pub struct Alarm {
     pub name: Name,
     pub counter: CounterNo,
@@ -28,7 +28,7 @@ pub struct Alarm {
 }
 
 /// A resource, with its ceiling priority for tasks and for interrupts.
-#[derive(Debug, Drop)]
+#[derive(Drop)]
 pub struct Resource {
     pub name: Name,
     pub ceiling: u32,

@@ -4,7 +4,7 @@ use crate::objects::{Alarm, Resource, Schedule};
 use osek_values::{HookSet, Mask, Name, ResNo, Seq};
 
 /// A TASK object.
-#[derive(Debug, Drop)]
+#[derive(Drop)]
 pub struct TaskObject {
     pub name: Name,
     /// Larger is higher, 0 the lowest.
@@ -21,7 +21,7 @@ pub struct TaskObject {
 }
 
 /// An ISR object of category 2.
-#[derive(Debug, Drop)]
+#[derive(Drop)]
 pub struct IsrObject {
     pub name: Name,
     /// Larger is higher, 0 the lowest.
@@ -31,7 +31,7 @@ pub struct IsrObject {
 }
 
 /// A COUNTER object.
-#[derive(Debug, Drop)]
+#[derive(Drop)]
 pub struct CounterObject {
     pub name: Name,
     /// MAXALLOWEDVALUE, in ticks.
@@ -43,7 +43,7 @@ pub struct CounterObject {
 }
 
 /// An EVENT object.
-#[derive(Debug, Drop)]
+#[derive(Drop)]
 pub struct EventObject {
     pub name: Name,
     pub mask: Mask,
@@ -51,7 +51,7 @@ pub struct EventObject {
 
 /// All that an OIL file declares. Objects stand in order of declaration, RES_SCHEDULER last among the resources, and
 /// OSDEFAULTAPPMODE first among the modes.
-#[derive(Debug, Drop)]
+#[derive(Drop)]
 pub struct System {
     /// The hooks that the OS object sets TRUE.
     pub hooks: HookSet,

@@ -3,7 +3,7 @@ use osek_values::{Name, Seq};
 use std::marker::Model;
 
 /// What stands in front of a number.
-#[derive(Clone, Copy, Debug, PartialEq, Eq)]
+#[derive(Clone, Copy)]
 pub enum Sign {
     Bare,
     Plus,

@@ -1,6 +1,6 @@
 -- What keeps a state well-formed: another state of a task, and another line and processor.
 use Rattle.std.proofs.Common.{◌≡◌, ◌≢◌, ℕ, ◌+◌, ◌<◌, true, [], length, refl, sym, ◌∙◌, subst, inl, inr, arith, Some, None, IfSome, get_or-set_same, get_or-set_other, List, ◌∷◌}
-use Rattle.std.proofs.Common.{◌++◌, ap}
+use Rattle.std.proofs.Common.{◌++◌}
 use Rattle.std.proofs.{lemmas.Bool.{cases_eq, eqb-true, ne_eqb}, Math.ListN.{length-set}}
 use Rattle.std.specs.declared.option.Option.{Option}
 use Rattle.osek_values.specs.{declared.numbers.TaskNo.{TaskNo}, Numbers.{task_no}}
@@ -116,10 +116,6 @@ module _ (app : App) (s : State) where
     processor = processor_keeps app s (with_processor (with_line s line) p) (λ u h. h) (λ k. refl) p has;
     line = due;
   }
-
-  -- a state with another processor, over the same task
-  pub with_processor_keeps : (p : Processor) → Well app s → IsProcessor app s p → task_of p ≡ task_of s.processor → Well app (with_processor s p)
-  with_processor_keeps p w has same = at_processor_keeps s.line p w has (λ t. w.line t ∙ ap (λ (o : Option TaskNo). places_due o t (task_state s t).activity) (sym same))
 
   -- who has the processor goes first in the line
   pub due_when_first : Well app s → (t : ℕ) → places_in (put_first (task_of s.processor) s.line) t ≡ places_due None t (task_state s t).activity

@@ -36,3 +36,5 @@ pub mod CountLaws
 pub mod Distinct
 pub mod OwnerLaws
 pub mod PointLaws
+pub mod CeilingLaws
+pub mod DueAlarms

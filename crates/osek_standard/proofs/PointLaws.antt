@@ -5,6 +5,7 @@ use Rattle.std.specs.{Ordering.{nat_cmp}, declared.option.Option.{Option}}
 use Rattle.std.proofs.{Math.{Bool.{or-true}, Nat.{add-mul, zero-mul}}, lemmas.Bool.{and_from, and_parts, cases_Bool, eq-eqb, eqb-false, le-leb, lt-ltb, ne_eqb, or_cases}}
 use Rattle.std.proofs.lemmas.{Bool.Decides.{nat_tests}, List.{length-map, FromFn.{length-range_with_len}}}
 use Rattle.osek_values.specs.{declared.numbers.{BlockNo.{BlockNo}, TaskNo.{TaskNo}}, Numbers.{block_no, task_no}}
+use Rattle.osek_values.proofs.Lists.{any_of_map}
 use Rattle.osek_standard.specs.declared.{app.App.{App}, objects.Isr.{Isr}, point.Point.{Point}}
 use Rattle.osek_standard.specs.declared.point.Point.TheVariants as point
 use Rattle.osek_standard.specs.{Apps.{is_task_block, no_task}, Counts.{points, task_blocks, routine_blocks}}
@@ -94,10 +95,6 @@ among_any (o ∷ os) b m = elim (among_cases b (blocks_within o) (blocks_of os) 
   | inr r ↦ ap (λ (c : Bool). is_within b o || c) (among_any os b r) ∙ or-true (is_within b o)
 ]
 
-any_map : {X : Type 0} (own : X → ℕ × ℕ) (b : ℕ) (xs : List X) → list_any (λ (x : X). is_within b (own x)) xs ≡ list_any (is_within b) (map own xs)
-any_map own b [] = refl
-any_map own b (x ∷ xs) = ap (λ (c : Bool). is_within b (own x) || c) (any_map own b xs)
-
 -- ---- all points
 
 module _ (app : App) where
@@ -124,10 +121,10 @@ module _ (app : App) where
 
   -- a block is a task's or a routine's, and not both
   task_has : (b : ℕ) → is_task_block app b ≡ true → Among b (blocks_of_tasks app)
-  task_has b e = any_among (map of_task app.tasks) b (sym (any_map of_task b app.tasks) ∙ e)
+  task_has b e = any_among (map of_task app.tasks) b (any_of_map (is_within b) of_task app.tasks ∙ e)
 
   has_task : (b : ℕ) → Among b (blocks_of_tasks app) → is_task_block app b ≡ true
-  has_task b m = any_map of_task b app.tasks ∙ among_any (map of_task app.tasks) b m
+  has_task b m = sym (any_of_map (is_within b) of_task app.tasks) ∙ among_any (map of_task app.tasks) b m
 
   has_none : (b : ℕ) → Among b (blocks_of_routines app) → is_task_block app b ≡ false
   has_none b m = elim (cases_Bool (is_task_block app b)) [

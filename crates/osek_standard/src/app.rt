@@ -8,7 +8,7 @@ use osek_values::{AlarmNo, BlockNo, CounterNo, HookSet, Mask, Name, ResNo, Seq, 
 
 /// An application. Entries stand in order of declaration, RES_SCHEDULER last among the resources, and
 /// OSDEFAULTAPPMODE first among the modes.
-#[derive(Debug, Drop)]
+#[derive(Drop)]
 pub struct App {
     /// The hooks that the OS object sets TRUE.
     pub hooks: HookSet,

@@ -2,7 +2,7 @@
 use osek_values::{AlarmNo, Lock, Mask, ResNo, TaskNo};
 
 /// The services without operands.
-#[derive(Clone, Copy, PartialEq, Eq, Debug)]
+#[derive(Clone, Copy, PartialEq, Eq)]
 pub enum PlainService {
     TerminateTask,
     Schedule,
@@ -11,7 +11,7 @@ pub enum PlainService {
 }
 
 /// The services of a task.
-#[derive(Clone, Copy, PartialEq, Eq, Debug)]
+#[derive(Clone, Copy, PartialEq, Eq)]
 pub enum TaskService {
     ActivateTask,
     ChainTask,
@@ -20,35 +20,35 @@ pub enum TaskService {
 }
 
 /// The services of a resource.
-#[derive(Clone, Copy, PartialEq, Eq, Debug)]
+#[derive(Clone, Copy, PartialEq, Eq)]
 pub enum ResourceService {
     GetResource,
     ReleaseResource,
 }
 
 /// The services of the caller's events.
-#[derive(Clone, Copy, PartialEq, Eq, Debug)]
+#[derive(Clone, Copy, PartialEq, Eq)]
 pub enum MaskService {
     ClearEvent,
     WaitEvent,
 }
 
 /// The services of an alarm.
-#[derive(Clone, Copy, PartialEq, Eq, Debug)]
+#[derive(Clone, Copy, PartialEq, Eq)]
 pub enum AlarmService {
     CancelAlarm,
     GetAlarm,
 }
 
 /// The services that arm an alarm.
-#[derive(Clone, Copy, PartialEq, Eq, Debug)]
+#[derive(Clone, Copy, PartialEq, Eq)]
 pub enum ArmService {
     SetRelAlarm,
     SetAbsAlarm,
 }
 
 /// A call of a service, by the shape of its operands.
-#[derive(Clone, Copy, PartialEq, Eq, Debug)]
+#[derive(Clone, Copy, PartialEq, Eq)]
 pub enum Call {
     Plain(PlainService),
     Task(TaskService, TaskNo),

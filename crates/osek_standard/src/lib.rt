@@ -2,7 +2,6 @@
 //! (in `specs/`), in the order and the words of ISO 17356-3.
 #![tactic(auto)]
 
-mod activation;
 mod app;
 mod block;
 mod call;
@@ -13,7 +12,6 @@ mod point;
 mod state;
 mod task_state;
 
-pub use activation::{activate, is_full};
 pub use app::App;
 pub use block::{Block, Kind};
 pub use call::{

@@ -3,7 +3,7 @@ pub use oil_system::{Action, Alarm, Resource, Schedule};
 use osek_values::{BlockNo, Mask, Name, ResNo};
 
 /// A task. It has the `count` blocks from `first` on, and begins at `first`.
-#[derive(Debug, Drop)]
+#[derive(Drop)]
 pub struct Task {
     pub name: Name,
     /// Larger is higher, 0 the lowest.
@@ -22,7 +22,7 @@ pub struct Task {
 }
 
 /// A category 2 ISR, with its blocks.
-#[derive(Debug, Drop)]
+#[derive(Drop)]
 pub struct Isr {
     pub name: Name,
     pub first: BlockNo,
@@ -32,7 +32,7 @@ pub struct Isr {
 }
 
 /// A counter, with the blocks of its tick routine.
-#[derive(Debug, Drop)]
+#[derive(Drop)]
 pub struct Counter {
     pub name: Name,
     /// MAXALLOWEDVALUE, in ticks.

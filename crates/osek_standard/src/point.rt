@@ -5,7 +5,7 @@ ghost use Rattle.osek_standard.specs.Points.{over_number, point_number};
 use osek_values::{BlockNo, TaskNo};
 
 /// Where the processor stands.
-#[derive(Clone, Copy, PartialEq, Eq, Debug)]
+#[derive(Clone, Copy, PartialEq, Eq)]
 pub enum Point {
     /// After ShutdownOS.
     Halted,

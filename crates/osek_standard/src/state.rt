@@ -5,7 +5,7 @@ use crate::task_state::{Activity, Place, TaskState};
 use osek_values::{AlarmNo, CounterNo, Held, Letter, Line, ModeNo, ResNo, Seq, SourceNo, TaskNo};
 
 /// An alarm's part of the state.
-#[derive(Clone, Copy, PartialEq, Eq, Debug)]
+#[derive(Clone, Copy)]
 pub enum AlarmState {
     Idle,
     /// The counter's value at which it expires, and the cycle after that; 0 for an alarm that expires once.
@@ -29,7 +29,7 @@ pub enum Source {
 }
 
 /// Who has the processor.
-#[derive(Clone, Copy, PartialEq, Eq, Debug)]
+#[derive(Clone, Copy, PartialEq, Eq)]
 pub enum Processor {
     /// After ShutdownOS.
     Halted,
@@ -58,7 +58,7 @@ impl Processor {
 }
 
 /// Who calls a service.
-#[derive(Clone, Copy, PartialEq, Eq, Debug)]
+#[derive(Clone, Copy)]
 pub enum Caller {
     /// The processor is idle or halted.
     Nobody,

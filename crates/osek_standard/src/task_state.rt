@@ -5,7 +5,7 @@ use osek_values::{BlockNo, Held, Mask, ResNo};
 
 /// The place of an instruction: a block, and how many of the block's instructions are done. The offset is 0 but at
 /// `work n`.
-#[derive(Clone, Copy, PartialEq, Eq, Debug)]
+#[derive(Clone, Copy)]
 pub struct Place {
     pub block: BlockNo,
     pub offset: u16,

@@ -15,7 +15,7 @@ use std::error::Error;
 use std::fmt;
 
 /// A system as texts, with a run for it. Each line ends with LF.
-#[derive(Debug, Drop)]
+#[derive(Drop)]
 pub struct Generated {
     /// The OIL text.
     pub oil: Seq<u8>,
@@ -26,7 +26,7 @@ pub struct Generated {
 }
 
 /// Why there are no texts.
-#[derive(Clone, Copy, PartialEq, Eq, Debug)]
+#[derive(Clone, Copy, Debug)]
 pub enum GenerateError {
     /// The number of tasks is not in 1 to `MAX_TASKS`.
     Tasks,

@@ -6,8 +6,6 @@ mod events;
 mod generated;
 pub mod laws;
 mod oil;
-#[cfg(test)]
-mod tests;
 mod writer;
 
 pub use generated::{GenerateError, Generated, generate};

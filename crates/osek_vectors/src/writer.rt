@@ -17,7 +17,7 @@ const MODULUS: u64 = 1 << 31;
 const LOW: u32 = 1 << 16;
 
 /// A text that is being written, and the state of the draws.
-#[derive(Debug, Drop)]
+#[derive(Drop)]
 pub(crate) struct Writer {
     text: String,
     state: u32,

@@ -1,42 +1,20 @@
 -- A join to one cell, by values.
-use Rattle.std.proofs.Common.{◌≡◌, ℕ, zero, suc, ◌+◌, ◌*◌, ◌^◌, ◌<◌, ◌≤◌, Bool, true, false, ◌&&◌, List, [], ◌∷◌, length, get_or, map, sym, ap, subst, ◌∙◌, inl, inr, arith, All, lit<}
-use Rattle.std.specs.{Prelude.{if◌then◌else◌}, List.{range_with_len}}
-use Rattle.std.proofs.{Math.{Nat.{pow-suc}, ListN.{get_or-map, get_or-eq_default}}, lemmas.{Bool.{cases_lt, or_cases, and_parts}, List.{get_or_default}}}
+use Rattle.std.proofs.Common.{◌≡◌, ℕ, ◌<◌, ◌≤◌, Bool, true, false, List, length, get_or, map, sym, ap, subst, ◌∙◌, inl, inr, arith, All}
+use Rattle.std.specs.List.{range_with_len}
+use Rattle.std.proofs.{Math.ListN.{get_or-map, get_or-eq_default}, lemmas.{Bool.{cases_lt}, List.{get_or_default}}}
 use Rattle.std.proofs.lemmas.List.FromFn.{get_or-range_with_len, length-map-range_with_len}
 use Rattle.bit_words.proofs.BitCounts.{no_bit_past}
 use Rattle.abstract_state.specs.declared.value.PartValue.{PartValue, TheVariants.{OfAlarm}}
 use Rattle.abstract_state.specs.declared.value.Domain.TheVariants as domain
-use Rattle.abstract_state.specs.{declared.table.{ValueSet.{ValueSet}, PlainEntry.{PlainEntry}}, ValueOrder.{same_part}, Concrete.{bits_number}}
+use Rattle.abstract_state.specs.{declared.table.{ValueSet.{ValueSet}, PlainEntry.{PlainEntry}}, Concrete.{bits_number}}
 use Rattle.abstract_state.specs.{Domains.{domains, IsSoundEntry, IsBelow}, Tables.{set_at, is_member, entry_values}}
-use Rattle.abstract_state.proofs.{BitLaws.{has_bit_of_number}, OrderLaws.{part_right}}
+use Rattle.abstract_state.proofs.BitLaws.{has_bit_of_number, number_few}
 use Rattle.numbered_sets.specs.{declared.numbered_entry.NumberedEntry.{NumberedEntry}, Numbers.{Numbers, numbers, has_number}}
 use Rattle.numbered_sets.specs.NumberedEntries.{no_set, numbers_at, number_domains, entry_numbers, AreSoundNumbers, IsBelowNumbers}
-use Rattle.numbered_sets.specs.{Pools.{Values, no_values, values_at, domain_at, AreValues}, Views.{values_with, plain_entry, AreNumbersOf}}
-use Rattle.numbered_sets.proofs.{PlainLaws.{has_value, member_of_plain, any_first, value_with_number, plain_set_at}, ViewLaws.{same_count, same_domains, plain_sound}}
-use Rattle.numbered_sets.proofs.KnownNumbers.{no_bit_of_none, order_onward}
+use Rattle.numbered_sets.specs.{Pools.{Values, no_values, values_at, domain_at, AreValues}, Views.{plain_entry, AreNumbersOf}}
+use Rattle.numbered_sets.proofs.{PlainLaws.{has_value, member_of_plain, value_with_number, plain_set_at}, ViewLaws.{same_count, same_domains, plain_sound}}
+use Rattle.numbered_sets.proofs.KnownNumbers.{found, no_bit_of_none, order_onward}
 use Rattle.state_flow.specs.{declared.cells.Cell.{Cell}, Cells.{IsRaised}, PlainCells.{plain_cell}}
-
--- the number by which a value is there
-record Found (vs : List PartValue) (has : ℕ → Bool) (w : PartValue) : Type 0 where
-  number : ℕ
-  known : number < length vs
-  is : (d : PartValue) → get_or vs number d ≡ w
-  there : has number ≡ true
-
-found : (vs : List PartValue) (has : ℕ → Bool) (w : PartValue) → has_value vs has w ≡ true → Found vs has w
-found [] has w e = absurd (cc)
-found (v ∷ vs) has w e = elim (or_cases (has 0 && same_part w v) (has_value vs (λ n. has (suc n)) w) (sym (any_first (has 0) v w (values_with vs (λ n. has (suc n)))) ∙ e)) [
-  | inl here ↦ (let parts = and_parts (has 0) (same_part w v) here in record { number = 0; known = omega arith; is = λ d. sym (part_right w v parts.1); there = parts.0 })
-  | inr later ↦ (let x = found vs (λ n. has (suc n)) w later in record { number = suc x.number; known = omega (arith, x.known); is = x.is; there = x.there })
-]
-
-small_number : (f : ℕ → Bool) (w : ℕ) → bits_number f w < 2 ^ w
-small_number f zero = lit< tt
-small_number f (suc w) = (let rest = small_number (λ k. f (suc k)) w in flag_below (f 0) (bits_number (λ k. f (suc k)) w) w rest)
-  where
-    flag_below : (b : Bool) (m k : ℕ) → m < 2 ^ k → (if b then 1 else 0) + 2 * m < 2 ^ (suc k)
-    flag_below true m k lt = omega (arith, lt, pow-suc 2 k)
-    flag_below false m k lt = omega (arith, lt, pow-suc 2 k)
 
 -- the numbers of the pool's values that pass a test
 module _ (pool : List Values) (test : ℕ → ℕ → Bool) where
@@ -73,7 +51,7 @@ module _ (pool : List Values) (test : ℕ → ℕ → Bool) where
     | inr le ↦ elim (cases_lt c (length pool)) [
       | inl below ↦
           (let none : has_number (numbers_at numbers_passing c) n ≡ false =
-          ap (λ (x : Numbers). has_number x n) (passing_at c below) ∙ no_bit_past (bits_number (test c) (length (values_at pool c))) (length (values_at pool c)) n (small_number (test c) (length (values_at pool c))) le in
+          ap (λ (x : Numbers). has_number x n) (passing_at c below) ∙ no_bit_past (bits_number (test c) (length (values_at pool c))) (length (values_at pool c)) n (number_few (test c) (length (values_at pool c))) le in
           absurd (cc))
       | inr above ↦ absurd (no_bit_of_none n (sym (ap (λ (x : Numbers). has_number x n) (none_above c above)) ∙ h))
     ]

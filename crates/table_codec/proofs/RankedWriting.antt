@@ -1,7 +1,7 @@
 -- Writing the values with some ranks, in their order: what is left to write.
 use Rattle.std.proofs.Common.{◌≡◌, ℕ, zero, suc, ◌+◌, ◌<◌, ◌≤◌, Bool, true, false, List, [], ◌∷◌, ◌++◌, length, drop, get_or, sym, ap, ap₂, ◌∙◌, inl, inr, arith, drop-cons}
 use Rattle.std.specs.{Prelude.{if◌then◌else◌}, List.{flat_map}}
-use Rattle.std.proofs.{Math.ListN.{drop_of_length-le}, lemmas.{Bool.{cases_eq}, List.{get_or_default, get_or-map, length-map, Concat.{flat_map-cons}}}}
+use Rattle.std.proofs.{lemmas.{Bool.{cases_eq}, List.{get_or_default, get_or-map, length-map, Concat.{flat_map-cons}}}}
 use Rattle.abstract_state.specs.declared.value.PartValue.{PartValue, TheVariants.{OfAlarm}}
 use Rattle.numbered_sets.specs.Views.{values_with}
 use Rattle.table_codec.specs.{declared.ascending.NumberedValue.{NumberedValue}, Ranks.{only_values}, Spelling.{value_bytes}}
@@ -23,9 +23,6 @@ module _ (vs : List PartValue) (has : ℕ → Bool) where
       ∙ ap₂ (λ (b : Bool) (w : PartValue). (if b then w ∷ [] else []) ++ values_with (drop (suc k) vs) (λ n. has (k + suc n))) (ap has first) at
       ∙ ap (λ (ws : List PartValue). (if has k then v ∷ [] else []) ++ ws)
       (values_same (drop (suc k) vs) (λ n. has (k + suc n)) (λ n. has (suc k + n)) (λ n. ap has (omega arith)) ∙ ap (λ (m : ℕ). values_left vs has m) one)
-
-  pub none_left : (k : ℕ) → length vs ≤ k → values_left vs has k ≡ []
-  none_left k whole = ap (λ (ws : List PartValue). values_with ws (λ n. has (k + n))) (drop_of_length-le vs whole)
 
   -- past ranks that aren't there
   pub left_on : (k m : ℕ) → k ≤ m → m ≤ length vs → ((i : ℕ) → k ≤ i → i < m → has i ≡ false) → values_left vs has m ≡ values_left vs has k

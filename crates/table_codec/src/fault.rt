@@ -53,7 +53,7 @@ pub struct TableFault {
 pub type TableError = Refused<TableFault>;
 
 /// A fault as a reader finds it: the rule, and how many bytes are left where the field begins.
-#[derive(Clone, Copy, PartialEq, Eq, Debug)]
+#[derive(Clone, Copy)]
 pub(crate) struct Fault {
     pub rule: TableRule,
     pub left: usize,
@@ -71,7 +71,7 @@ impl From<Fault> for Refused<Fault> {
 }
 
 /// Why no bytes were written.
-#[derive(Clone, Copy, PartialEq, Eq, Debug, Error)]
+#[derive(Clone, Copy, Debug, Error)]
 pub enum WriteFault {
     /// The bytes would be over the limit.
     #[error("too long")]

@@ -3,7 +3,7 @@ use crate::shape::Shape;
 use crate::source_shape::SourceShape;
 
 /// What a task or a source can be at a point.
-#[derive(Clone, Copy, Debug)]
+#[derive(Clone, Copy)]
 pub(crate) enum ListedShape {
     Task(Shape),
     Source(SourceShape),

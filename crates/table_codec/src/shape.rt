@@ -14,7 +14,7 @@ use osek_standard::{App, Call, Kind, MaskService, Point};
 use osek_values::{BlockNo, TaskNo};
 
 /// What a task can be at a point: at which blocks it may be Live, and what else it may be.
-#[derive(Clone, Copy, Debug)]
+#[derive(Clone, Copy)]
 pub(crate) struct Shape {
     pub point: Point,
     pub task: TaskNo,

@@ -11,7 +11,7 @@ use osek_standard::{App, Point};
 use osek_values::{BlockNo, SourceNo};
 
 /// What a source can be at a point: whether it may be Out, and at which blocks it may be In.
-#[derive(Clone, Copy, Debug)]
+#[derive(Clone, Copy)]
 pub(crate) struct SourceShape {
     pub point: Point,
     pub source: SourceNo,

@@ -2,6 +2,7 @@
 use Rattle.std.proofs.Common.{◌≡◌, ℕ, ◌<◌, ◌≤◌, Bool, true, false, cond, List, [], ◌∷◌, ◌++◌, length, refl, arith}
 use Rattle.std.specs.Prelude.{All, ◌&&◌, nat_le, IsTrue}
 use Rattle.std.proofs.lemmas.{Bool.Decides.{nat_tests}, List.Elements.{All-nil, All-cons, All-head, All-tail}}
+use Rattle.osek_values.proofs.Lists.{both_empty}
 use Rattle.oil_lexer.specs.declared.token.Token.{Token}
 use Rattle.task_code.specs.declared.{call.{Reference.{Reference}, Call.{Call}}, tree.Body.{Body}}
 use Rattle.task_code.specs.declared.words.{Service.{Service}, PlainService.{PlainService, TheVariants.{TerminateTask, Schedule, GetTaskId, GetActiveApplicationMode, Lock}}, ObjectService.{ObjectService, TheVariants.{ActivateTask, ChainTask, GetResource, ReleaseResource, GetEvent, CancelAlarm, GetAlarm, GetTaskState}}, MaskService.{MaskService, TheVariants.{ClearEvent, WaitEvent}}, AlarmService.{AlarmService, TheVariants.{SetRelAlarm, SetAbsAlarm}}}
@@ -59,10 +60,6 @@ has_masks (a_while e c body next) = (has_masks body, has_masks next)
 has_masks (grammar.a_call e c next) = (names_events c, has_masks next)
 
 -- counts, where no `work` is wrong
-
-both_empty : (a b : List ℕ) → a ++ b ≡ [] → (a ≡ []) × (b ≡ [])
-both_empty [] b e = (refl, e)
-both_empty (x ∷ a) b e = absurd cc
 
 both_true : (a b : Bool) → a && b ≡ true → (a ≡ true) × (b ≡ true)
 both_true true true e = (refl, refl)

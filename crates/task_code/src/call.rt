@@ -2,7 +2,7 @@
 use osek_values::{Lock, Name, Seq, Status};
 
 /// The name of an object, where it stands in the text.
-#[derive(Debug, Drop)]
+#[derive(Drop)]
 pub struct Reference {
     pub name: Name,
     /// The line of the name.
@@ -10,7 +10,7 @@ pub struct Reference {
 }
 
 /// A call of a service of ISO 17356-3. A list of references is a mask, the events that it names.
-#[derive(Debug, Drop)]
+#[derive(Drop)]
 pub enum Call {
     ActivateTask(Reference),
     TerminateTask,

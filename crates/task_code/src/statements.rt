@@ -161,18 +161,9 @@ fn statement<'a>(
             let (read, rest) = work(line, tokens)?;
             Ok((read, rest))
         }
-        StatementWord::If => {
-            let (read, rest) = conditional(alloc, depth, line, tokens)?;
-            Ok((read, rest))
-        }
-        StatementWord::While => {
-            let (read, rest) = repetition(alloc, depth, line, tokens)?;
-            Ok((read, rest))
-        }
-        StatementWord::Service(service) => {
-            let (read, rest) = service_call(alloc, line, service, tokens)?;
-            Ok((read, rest))
-        }
+        StatementWord::If => conditional(alloc, depth, line, tokens),
+        StatementWord::While => repetition(alloc, depth, line, tokens),
+        StatementWord::Service(service) => service_call(alloc, line, service, tokens),
     }
 }
 

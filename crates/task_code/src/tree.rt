@@ -4,7 +4,7 @@ use osek_values::Seq;
 use std::marker::Model;
 
 /// The condition of a loop.
-#[derive(Clone, Copy, Debug, PartialEq, Eq)]
+#[derive(Clone, Copy)]
 pub enum Condition {
     /// `?`: each run chooses.
     Choice,
@@ -94,7 +94,7 @@ impl StatementList {
 }
 
 /// Whose code it is.
-#[derive(Clone, Copy, Debug, PartialEq, Eq)]
+#[derive(Clone, Copy)]
 pub enum BodyKind {
     Task,
     Isr,

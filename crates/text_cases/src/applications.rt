@@ -1,4 +1,4 @@
-//! Texts with their application, and with their least fault.
+//! Texts with their application.
 ghost use Rattle.std.specs.Prelude.{IfSome};
 ghost use Rattle.oil_model.specs.Linkable.{IsLinkable};
 ghost use Rattle.task_code.specs.Fit.{AreFit};
@@ -11,19 +11,9 @@ use oil_tree::parse;
 use osek_standard::{
     AlarmService, App, Block, Call, Counter, Isr, Kind, PlainService, Task, TaskService,
 };
-use osek_values::{AlarmNo, BlockNo, CodeRule, Lock, Mask, ResNo, TaskNo};
-use std::alloc::{AllocError, Global};
+use osek_values::{AlarmNo, BlockNo, Lock, Mask, ResNo, TaskNo};
+use std::alloc::Global;
 use task_code::{Code, parse_code};
-
-/// What comes of an OIL text and a code text.
-#[derive(Clone, Copy, Debug, PartialEq, Eq)]
-enum Outcome {
-    /// An application with so many blocks.
-    Blocks(usize),
-    Faulty(CodeRule, u32),
-    /// No system, no code, or no memory.
-    Nothing,
-}
 
 fn system_of(alloc: Global, oil: &[u8]) -> Option<System>
     ensures { IfSome result IsLinkable }
@@ -67,18 +57,6 @@ fn gives<T: Fn(&App) -> bool>(alloc: Global, oil: &[u8], text: &[u8], is_so: T) 
             right
         }
         Err(_) => false,
-    }
-}
-
-fn outcome_of(alloc: Global, oil: &[u8], text: &[u8]) -> Outcome {
-    match linked(alloc, oil, text) {
-        Ok(app) => {
-            let blocks = app.blocks.len();
-            drop(app);
-            Outcome::Blocks(blocks)
-        }
-        Err(LinkError::Fault(fault)) => Outcome::Faulty(fault.rule, fault.line),
-        Err(LinkError::Memory) => Outcome::Nothing,
     }
 }
 
@@ -199,74 +177,6 @@ fn locks_masks_and_ticks(rt: HostRuntime) {
     assert!(rt; gives(rt.alloc(), oil, text, locks_and_ticks_stand));
 }
 
-/// A system with a task, two resources, one of which an ISR names, an INTERNAL resource, and an ISR of either category.
-const OIL: &[u8] =
-    b"CPU c { OS os; TASK T { PRIORITY = 1; }; RESOURCE R; RESOURCE S; RESOURCE G { RESOURCEPROPERTY = INTERNAL; }; ISR I { CATEGORY = 2; RESOURCE = S; }; ISR J { CATEGORY = 1; }; };";
-
-/// Code texts beside it, with what comes of them.
-const TEXTS: [(&[u8], Outcome); 12] = [
-    (b"TASK(T) { } ISR(I) { }", Outcome::Blocks(2)),
-    // a lesser rule outranks a lesser line
-    (b"TASK(T) { } ISR(J) { }", Outcome::Faulty(CodeRule::C1, 0)),
-    (
-        b"TASK(T) { } ISR(I) { }\nISR(J) { }",
-        Outcome::Faulty(CodeRule::C2, 2),
-    ),
-    (
-        b"TASK(T) { } ISR(I) { }\nTASK(T) { }",
-        Outcome::Faulty(CodeRule::C3, 2),
-    ),
-    (
-        b"TASK(T) { ActivateTask(\nI); } ISR(I) { }",
-        Outcome::Faulty(CodeRule::C4, 2),
-    ),
-    // of an ISR that names S alone
-    (
-        b"TASK(T) { GetResource(R); } ISR(I) { GetResource(S); ReleaseResource(S); }",
-        Outcome::Blocks(5),
-    ),
-    (
-        b"TASK(T) { GetResource(R); } ISR(I) { GetResource(S);\nReleaseResource(R); }",
-        Outcome::Faulty(CodeRule::C6, 2),
-    ),
-    (
-        b"TASK(T) { } ISR(I) { while (?) {\nGetResource(RES_SCHEDULER); } }",
-        Outcome::Faulty(CodeRule::C6, 2),
-    ),
-    (
-        b"TASK(T) { SuspendAllInterrupts();\nSchedule(); } ISR(I) { }",
-        Outcome::Faulty(CodeRule::C7, 2),
-    ),
-    // an INTERNAL resource, on the line of its name, and in an ISR on that of the call
-    (
-        b"TASK(T) { GetResource(\nG); } ISR(I) { }",
-        Outcome::Faulty(CodeRule::C10, 2),
-    ),
-    (
-        b"TASK(T) { GetResource(R);\nReleaseResource(G); } ISR(I) { }",
-        Outcome::Faulty(CodeRule::C10, 2),
-    ),
-    (
-        b"TASK(T) { } ISR(I) {\nGetResource(\nG); }",
-        Outcome::Faulty(CodeRule::C6, 2),
-    ),
-];
-
-/// The first text of which something else comes.
-fn first_wrong(alloc: Global) -> Option<usize> {
-    for (at, (text, wanted)) in TEXTS.iter().enumerate() {
-        if outcome_of(alloc, OIL, text) != *wanted {
-            return Some(at);
-        }
-    }
-    None
-}
-
-#[test]
-fn least_faults(rt: HostRuntime) {
-    assert_eq!(rt; first_wrong(rt.alloc()), None);
-}
-
 fn are_grouped(tasks: &[Task]) -> bool {
     tasks.len() == 2
         && tasks[0].activation == 255
@@ -284,33 +194,4 @@ fn activations_and_an_internal_resource(rt: HostRuntime) {
     let oil =
         b"CPU c { OS os; RESOURCE G { RESOURCEPROPERTY = INTERNAL; }; TASK T1 { PRIORITY = 1; ACTIVATION = 255; RESOURCE = G; }; TASK T2 { PRIORITY = 1; }; };";
     assert!(rt; gives(rt.alloc(), oil, b"TASK(T1) { } TASK(T2) { }", is_grouped));
-}
-
-/// A task with so many statements, one a line from line 2 on.
-fn long(alloc: Global, statements: usize) -> Result<Vec<u8>, AllocError> {
-    let mut text = b"TASK(T) {".to_vec(alloc)?;
-    for _ in 0..statements {
-        text.extend_from_slice(b"\nwork 1;")?;
-    }
-    text.extend_from_slice(b"\n}")?;
-    Ok(text)
-}
-
-/// What comes of a task with so many statements.
-fn outcome_of_long(alloc: Global, statements: usize) -> Outcome {
-    let oil = b"CPU c { OS os; TASK T { PRIORITY = 1; }; };";
-    match long(alloc, statements) {
-        Ok(text) => outcome_of(alloc, oil, text.as_slice()),
-        Err(_) => Outcome::Nothing,
-    }
-}
-
-#[test]
-fn long_texts(rt: HostRuntime) {
-    let alloc = rt.alloc();
-    assert_eq!(rt; outcome_of_long(alloc, 1023), Outcome::Blocks(1024));
-    let late = Outcome::Faulty(CodeRule::C8, 1026);
-    // The task's end comes too late, and one statement more does.
-    assert_eq!(rt; outcome_of_long(alloc, 1024), late);
-    assert_eq!(rt; outcome_of_long(alloc, 1025), late);
 }

@@ -1,39 +1,8 @@
-//! Texts with their code, and with their first fault.
+//! Texts with their code.
 use oil_lexer::tokens;
-use osek_values::{CodeRule, Lock, Rule, Status, SyntaxRule};
+use osek_values::{Lock, Status};
 use std::alloc::{AllocError, Global};
-use task_code::{
-    Body, BodyKind, Call, CodeError, Condition, Reference, Statement, one_answer, parse_code,
-};
-
-/// What comes of a text.
-#[derive(Clone, Copy, Debug, PartialEq, Eq)]
-enum Outcome {
-    /// Code with so many bodies.
-    Bodies(usize),
-    Lexer(u32),
-    Fault(u32, Rule),
-    Memory,
-}
-
-const S1: Rule = Rule::Syntax(SyntaxRule::S1);
-
-const S2: Rule = Rule::Syntax(SyntaxRule::S2);
-
-const S3: Rule = Rule::Syntax(SyntaxRule::S3);
-
-const C9: Rule = Rule::Code(CodeRule::C9);
-
-fn outcome_of(alloc: Global, text: &[u8]) -> Outcome {
-    match tokens(text) {
-        Err(fault) => Outcome::Lexer(fault.line),
-        Ok(tokens) => match parse_code(alloc, &tokens) {
-            Ok(code) => Outcome::Bodies(code.bodies.len()),
-            Err(CodeError::Fault(fault)) => Outcome::Fault(fault.line, fault.rule),
-            Err(CodeError::Memory) => Outcome::Memory,
-        },
-    }
-}
+use task_code::{Body, BodyKind, Call, Condition, Reference, Statement, one_answer, parse_code};
 
 fn is_at(reference: &Reference, name: &[u8], line: u32) -> bool {
     reference.name.as_bytes() == name && reference.line == line
@@ -146,7 +115,7 @@ fn first_misread(alloc: Global) -> Option<usize> {
 
 #[test]
 fn each_call(rt: HostRuntime) {
-    assert_eq!(rt; first_misread(rt.alloc()), None);
+    assert!(rt; first_misread(rt.alloc()) == None);
 }
 
 fn is_work(statement: &Statement, at: u32, instructions: u64) -> bool {
@@ -266,110 +235,4 @@ fn tree_of_a_text(rt: HostRuntime) {
         b"TASK(\nT1) {\n work 0x10;\n if (?) {\n } else {\n }\n if (?) { SetEvent(T2,\n e1 |\n e2); }\n while (0x1) {\n work 1;\n }\n while (?) { }\n}\nISR(I1) { }";
     assert!(rt; gives_bodies(rt.alloc(), text));
     one_answer();
-}
-
-/// Texts with what comes of them.
-const TEXTS: [(&[u8], Outcome); 24] = [
-    (b"", Outcome::Bodies(0)),
-    (b"TASK(T) { }\nISR(I) { } TASK(T) { }", Outcome::Bodies(3)),
-    // A word of the grammar may name an object.
-    (b"TASK(TASK) { ActivateTask(while); }", Outcome::Bodies(1)),
-    // Locks are judged later.
-    (
-        b"TASK(T1) { SuspendOSInterrupts(); TerminateTask(); ResumeOSInterrupts(); }",
-        Outcome::Bodies(1),
-    ),
-    (b"TASK(T) {\n StartOS(); }", Outcome::Fault(2, S1)),
-    (
-        b"TASK(T) { ShutdownOS(\nE_OS_PROTECTION); }",
-        Outcome::Fault(2, S1),
-    ),
-    (b"TASK(T) { while (\n2) { } }", Outcome::Fault(2, S1)),
-    (b"TASK(T) { if (\n1) { } }", Outcome::Fault(2, S1)),
-    (b"TASK(T) {\nelse { } }", Outcome::Fault(2, S1)),
-    (
-        b"TASK(T) { if (?) { } else { }\nelse { } }",
-        Outcome::Fault(2, S1),
-    ),
-    (b"TASK(T) { ClearEvent(\n); }", Outcome::Fault(2, S1)),
-    (b"TASK(T) { SetEvent(T\n); }", Outcome::Fault(2, S1)),
-    (b"TASK(T) { Schedule()\n}", Outcome::Fault(2, S1)),
-    (b"\ntask(T) { }", Outcome::Fault(2, S1)),
-    (b"TASK(T) { }\n}", Outcome::Fault(2, S1)),
-    // A brace that isn't allowed is no brace too deep.
-    (b"TASK(T) {\n{", Outcome::Fault(2, S1)),
-    (b"TASK", Outcome::Fault(1, S2)),
-    (b"TASK(T) {\n work 0;\n\n", Outcome::Fault(2, S2)),
-    (b"TASK(T) { work 65535; }", Outcome::Bodies(1)),
-    (b"TASK(T) {\n work\n 65536; }", Outcome::Fault(2, C9)),
-    (b"TASK(T) {\n work 0; }", Outcome::Fault(2, C9)),
-    // The first one in the text counts, and the grammar before it.
-    (
-        b"TASK(T) { if (?) { } else { while (?) {\n work 0; } }\n work 0; }",
-        Outcome::Fault(2, C9),
-    ),
-    (b"TASK(T) { work 0; }\nx", Outcome::Fault(2, S1)),
-    (b"TASK(T) { work 1 / 2; }", Outcome::Lexer(1)),
-];
-
-/// The first text of which something else comes.
-fn first_wrong(alloc: Global) -> Option<usize> {
-    for (at, (text, wanted)) in TEXTS.iter().enumerate() {
-        if outcome_of(alloc, text) != *wanted {
-            return Some(at);
-        }
-    }
-    None
-}
-
-#[test]
-fn first_faults(rt: HostRuntime) {
-    assert_eq!(rt; first_wrong(rt.alloc()), None);
-}
-
-/// A task with so many loops in one another, the innermost on line 2.
-fn nested(alloc: Global, loops: usize) -> Result<Vec<u8>, AllocError> {
-    let mut text = b"TASK(T) {".to_vec(alloc)?;
-    for i in 0..loops {
-        if i + 1 == loops {
-            text.push(b'\n')?;
-        }
-        text.extend_from_slice(b"while (?) {")?;
-    }
-    for _ in 0..loops {
-        text.push(b'}')?;
-    }
-    text.push(b'}')?;
-    Ok(text)
-}
-
-/// A task with 80000 calls.
-fn many_calls(alloc: Global) -> Result<Vec<u8>, AllocError> {
-    let mut text = b"TASK(T) {".to_vec(alloc)?;
-    for _ in 0..80_000 {
-        text.extend_from_slice(b"Schedule();")?;
-    }
-    text.push(b'}')?;
-    Ok(text)
-}
-
-/// What comes of a text that was made, if there was memory for it.
-fn outcome_of_made(alloc: Global, text: Result<Vec<u8>, AllocError>) -> Outcome {
-    match text {
-        Ok(text) => outcome_of(alloc, text.as_slice()),
-        Err(_) => Outcome::Memory,
-    }
-}
-
-#[test]
-fn deep_and_large_texts(rt: HostRuntime) {
-    let alloc = rt.alloc();
-    let fits = outcome_of_made(alloc, nested(alloc, 31));
-    assert_eq!(rt; fits, Outcome::Bodies(1));
-    let deep = outcome_of_made(alloc, nested(alloc, 32));
-    assert_eq!(rt; deep, Outcome::Fault(2, S3));
-    let blanks = outcome_of_made(alloc, vec![in alloc; b' '; 1_048_576]);
-    assert_eq!(rt; blanks, Outcome::Bodies(0));
-    let calls = outcome_of_made(alloc, many_calls(alloc));
-    assert_eq!(rt; calls, Outcome::Bodies(1));
 }

@@ -5,11 +5,13 @@
 #[cfg(test)]
 mod applications;
 #[cfg(test)]
-mod both_texts;
-#[cfg(test)]
 mod code_trees;
 #[cfg(test)]
 mod faults_and_fronts;
+#[cfg(test)]
+mod generated_systems;
+#[cfg(test)]
+mod given_words;
 #[cfg(test)]
 mod oil_trees;
 #[cfg(test)]

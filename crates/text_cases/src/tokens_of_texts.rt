@@ -1,10 +1,10 @@
-//! Texts with their tokens, and with their first fault.
+//! Texts with their tokens.
 use oil_lexer::{Mark, TokenKind, tokens};
-use osek_values::{LexRule, Memory};
+use osek_values::Memory;
 use std::alloc::Global;
 
 /// What a token is to be.
-#[derive(Clone, Copy, Debug)]
+#[derive(Clone, Copy)]
 enum Want<'a> {
     Name(&'a [u8]),
     Number(u64),
@@ -37,13 +37,6 @@ fn reads(text: &[u8], wanted: &[(u32, Want)]) -> bool {
         rest = after;
     }
     rest.first().is_none()
-}
-
-fn fault(text: &[u8]) -> Option<(u32, LexRule)> {
-    match tokens(text) {
-        Err(fault) => Some((fault.line, fault.rule)),
-        Ok(_) => None,
-    }
 }
 
 /// Texts with their tokens.
@@ -171,68 +164,6 @@ fn blanks_have_no_token(alloc: Global, length: usize) -> bool {
 
 #[test]
 fn texts_with_tokens(rt: HostRuntime) {
-    assert_eq!(rt; first_wrong_text(&TEXTS), None);
+    assert!(rt; first_wrong_text(&TEXTS) == None);
     assert!(rt; blanks_have_no_token(rt.alloc(), 1_048_576));
-}
-
-/// Texts with the line and the rule of their first fault.
-const FAULTS: [(&[u8], u32, LexRule); 12] = [
-    (b"#include \"x\"", 1, LexRule::L1),
-    (b"a\nb / c", 2, LexRule::L1),
-    (b"/* a */ */", 1, LexRule::L1),
-    (b"\x00", 1, LexRule::L1),
-    // The first in the text counts.
-    (b"% \"a", 1, LexRule::L1),
-    (b"a\n\n/* b\n\n", 3, LexRule::L2),
-    (b"/*/", 1, LexRule::L2),
-    (b"\n\n\"x\n\"", 3, LexRule::L3),
-    (b"\"a", 1, LexRule::L3),
-    (b"0xFFFFFFFFFFFFFFFF\n18446744073709551616", 2, LexRule::L4),
-    (b"0x10000000000000000", 1, LexRule::L4),
-    (
-        b"a2345678901234567890123456789012345678901234567890123456789012345",
-        1,
-        LexRule::L5,
-    ),
-];
-
-/// The number of the first text that doesn't have its fault.
-fn first_wrong_fault(rows: &[(&[u8], u32, LexRule)]) -> Option<usize> {
-    for (number, (text, line, rule)) in rows.iter().enumerate() {
-        if fault(text) != Some((*line, *rule)) {
-            return Some(number);
-        }
-    }
-    None
-}
-
-/// The fault of so many bytes, of which the first is another one.
-fn long_fault(alloc: Global, first: u8, others: u8, length: usize) -> Option<(u32, LexRule)> {
-    match long_text(alloc, first, others, length) {
-        Ok(text) => fault(text.as_slice()),
-        Err(_) => None,
-    }
-}
-
-/// Long texts by their first byte, their others and their length, with the line and the rule of their fault.
-const LONG_FAULTS: [(u8, u8, usize, u32, LexRule); 3] = [
-    (b'9', b'9', 400_000, 1, LexRule::L4),
-    (b'/', b'*', 1_048_576, 1, LexRule::L2),
-    (b' ', b' ', 1_048_577, 0, LexRule::L6),
-];
-
-/// The number of the first long text that doesn't have its fault.
-fn first_wrong_long_fault(alloc: Global, rows: &[(u8, u8, usize, u32, LexRule)]) -> Option<usize> {
-    for (number, (first, others, length, line, rule)) in rows.iter().enumerate() {
-        if long_fault(alloc, *first, *others, *length) != Some((*line, *rule)) {
-            return Some(number);
-        }
-    }
-    None
-}
-
-#[test]
-fn texts_with_a_fault(rt: HostRuntime) {
-    assert_eq!(rt; first_wrong_fault(&FAULTS), None);
-    assert_eq!(rt; first_wrong_long_fault(rt.alloc(), &LONG_FAULTS), None);
 }

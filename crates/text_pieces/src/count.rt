@@ -8,7 +8,7 @@ use std::marker::Model;
 const ROOM: usize = 2 * MAX_DECIMAL;
 
 /// A number with its digits, which contracts see as the number.
-#[derive(Debug, Drop)]
+#[derive(Drop)]
 pub struct Count {
     // The digits, and behind them bytes that have no meaning.
     digits: [u8; ROOM],

@@ -16,7 +16,7 @@ const SHORT: usize = 16;
 const MIDDLE: usize = 32;
 
 /// A short text, which contracts see as the list of its bytes.
-#[derive(Debug, Drop)]
+#[derive(Drop)]
 pub struct Label {
     // The text, and behind it bytes that have no meaning.
     bytes: [u8; LABEL_ROOM],

@@ -1,7 +1,7 @@
 -- The parts of a point's word: the number of a block, and what its routine interrupted.
 use Rattle.std.proofs.Common.{◌≡◌, ◌≢◌, ℕ, suc, ◌+◌, ◌-◌, ◌*◌, ◌<◌, ◌≤◌, ◌^◌, ◌⊎◌, Bool, true, false, List, [], ◌∷◌, length, drop, get_or, min, Option, Some, None, sym, ◌∙◌, ap, inl, inr, arith, add-one, rules}
 use Rattle.std.specs.{Prelude.{codes}, Char.{is_ascii_digit}, Fmt.{decimal}, List.{list_all, position}, Str.{bytes_eq, Parse.{digits_value}}}
-use Rattle.std.proofs.lemmas.{Bool.{cases_lt, true≢false}, Fmt.{decimal-digits_value, digits_value-decimal}, List.{Quantifiers.{position-Some}, Sums.{fails_before_first}}, Slice.Eq.{bytes_eq-Decides}, Str.Parse.{IsNumeralModel, digit_at, numerals_by_fold}}
+use Rattle.std.proofs.lemmas.{Bool.{cases_lt, true≢false}, Fmt.{decimal-digits_value, digits_value-decimal}, List.{Quantifiers.{position-Some}, Sums.{fails_before_first}}, Slice.Eq.{bytes_eq-Decides}, Str.Parse.{IsNumeralModel, numerals_by_fold}}
 use Rattle.std.proofs.Math.Seq.{drop-cons}
 use Rattle.osek_values.specs.{declared.numbers.TaskNo.{TaskNo}, Numbers.{task_no}}
 use Rattle.osek_standard.specs.{declared.{app.App.{App}, objects.Task.{Task}}, Apps.{no_task}}
@@ -39,10 +39,6 @@ pub digit_read : (ds : List ℕ) (i v d m all : ℕ) → i < length ds → get_o
 digit_read ds i v d m all within at is before =
     let rest : drop i ds ≡ d ∷ drop (i + 1) ds = drop-cons ds i 0 within ∙ ap (λ (n : ℕ). n ∷ drop (suc i) ds) at ∙ ap (λ (n : ℕ). d ∷ drop n ds) (sym (add-one i)) in
     cut_off (v * 10 + (d - 48)) m (drop (i + 1) ds) (omega (arith, is)) ∙ ap (λ (l : List ℕ). min (read_on v l) 65535) (sym rest) ∙ before
-
--- a digit is no less than `0`
-pub digit_low : (ds : List ℕ) (i : ℕ) → list_all is_ascii_digit ds ≡ true → i < length ds → 48 ≤ get_or ds i 0
-digit_low ds i h within = (digit_at ds i (own.to ds h) within).0
 
 -- ---- blocks
 

@@ -135,13 +135,6 @@ module _ (app : App) where
   over_one rest k (Some p) at h = (h.0, h.1 ∙ whole rest k at)
   over_one rest k None at h = none_over rest k at h
 
-  -- ---- a word that is neither of the two words, and no block's, is no point's
-  pub no_point : (word : List ℕ) → bytes_eq word (codes "halt") ≡ false → bytes_eq word (codes "idle") ≡ false → ((rest : List ℕ) → word ≢ codes "b" ++ rest) → (p : Point) → IsPoint app p → point_text app p ≢ word
-  no_point word halt idle none point.Halted h e = true≢false (sym ((bytes_eq-Decides word (codes "halt")).1 (sym e)) ∙ halt)
-  no_point word halt idle none point.Idle h e = true≢false (sym ((bytes_eq-Decides word (codes "idle")).1 (sym e)) ∙ idle)
-  no_point word halt idle none (point.Task b) h e = none (decimal b.0) (sym e)
-  no_point word halt idle none (point.Routine b x) h e = none ((decimal b.0 ++ codes "/") ++ task_or_dash app x) (sym e)
-
   -- ---- the point of a word is found among all points
 
   abbrev has_text : List ℕ → Point → Bool

@@ -3,7 +3,7 @@ ghost use Rattle.std.specs.Prelude.{◌≡◌};
 ghost use Rattle.trace_text.specs.{EventFaults.{event_fault_name}, PointFaults.{point_fault_name}};
 
 /// Rules on event texts (this project's profile).
-#[derive(Clone, Copy, PartialEq, Eq, Debug)]
+#[derive(Clone, Copy, PartialEq, Eq)]
 pub enum EventFault {
     /// No such form.
     E1,
@@ -30,14 +30,14 @@ impl EventFault {
 }
 
 /// The first fault of an event text. Lines count from 1; line 0 is the text as a whole.
-#[derive(Clone, Copy, PartialEq, Eq, Debug)]
+#[derive(Clone, Copy, PartialEq, Eq)]
 pub struct FaultyLine {
     pub line: u32,
     pub rule: EventFault,
 }
 
 /// Rules on records of points (this project's profile).
-#[derive(Clone, Copy, PartialEq, Eq, Debug)]
+#[derive(Clone, Copy, PartialEq, Eq)]
 pub enum PointFault {
     /// Not one word of the form of a point.
     G1,
@@ -64,7 +64,7 @@ impl PointFault {
 }
 
 /// The first fault of a record. Lines count from 1; line 0 is the record as a whole.
-#[derive(Clone, Copy, PartialEq, Eq, Debug)]
+#[derive(Clone, Copy)]
 pub struct FaultyPoint {
     pub line: u32,
     pub rule: PointFault,

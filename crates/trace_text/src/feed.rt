@@ -12,7 +12,7 @@ use std::marker::Model;
 pub const FEED_ROOM: usize = 8192;
 
 /// What a feed answers where the next line is asked for.
-#[derive(Clone, Copy, PartialEq, Eq, Debug)]
+#[derive(Clone, Copy, PartialEq, Eq)]
 pub enum FeedStep {
     /// A line came out.
     Line,

@@ -5,7 +5,7 @@ ghost use Rattle.trace_text.specs.Labels.{task_label, counter_label, isr_label, 
 
 use arrayvec::ArrayVec;
 use osek_standard::App;
-use osek_values::limits::{MAX_COUNTERS, MAX_ISRS, MAX_NAME, MAX_RESOURCES, MAX_TASKS};
+use osek_values::limits::{MAX_COUNTERS, MAX_ISRS, MAX_RESOURCES, MAX_TASKS};
 use osek_values::{Name, ResNo, SourceNo, TaskNo};
 use std::marker::Model;
 use text_pieces::Label;

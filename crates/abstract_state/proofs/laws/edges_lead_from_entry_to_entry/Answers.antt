@@ -1,4 +1,4 @@
-use Rattle.abstract_state.proofs.FormLaws.{edge_begins, edge_ends}
+use Rattle.abstract_state.proofs.EdgeLaws.{edge_begins, edge_ends}
 use Rattle.abstract_state.proofs.laws.edges_lead_from_entry_to_entry.Goals as goal
 
 pub returns : goal.returns

@@ -2,8 +2,8 @@
 use Rattle.std.proofs.{Common.{◌≡◌, ℕ, ◌+◌, List, [], ◌∷◌, ◌++◌, append_assoc, drop, eqb, true, false, sym, ap, ◌∙◌, arith}, lemmas.Bool.Decides.{nat_tests}}
 use Rattle.osek_values.specs.Numbers.{alarm_no}
 use Rattle.osek_standard.specs.declared.block.Kind.TheVariants as kind
+use Rattle.osek_standard.proofs.DueAlarms.{due_from, due_here, due_later}
 use Rattle.block_graph.specs.Blocks.{tick_block, expiries}
-use Rattle.block_graph.proofs.BlocksDue.{due_from, due_here, due_later}
 use Rattle.block_graph.proofs.ticks.lay_out_expiries.Goals as goal
 use Rattle.block_graph.proofs.ticks.lay_out_expiries.Goals.{then-index-counter+in_ok-push, else-index-counter}
 
@@ -25,7 +25,7 @@ loop-i-preserved c =
                 (λ i. (w.blocks-is i).items ++ expiries later (number i))
                 ∙ (λ i. (w.in_ok-push.ensures.items ∙ (λ j. before ++ tick j ∷ [])) i ++ expiries later (n + 1))
                 ∙ append_assoc before (tick_block (kind.Expire (alarm_no c.loop-i.i)) (n + 1) ∷ []) (expiries later (n + 1))
-                ∙ sym (ap all (due_here alarms c.loop-i.i c.args.counter x c.loop-i-test.true c.index-alarms-i.is is))
+                ∙ sym (ap all (due_here alarms c.loop-i.i c.args.counter x x c.loop-i-test.true (sym c.index-alarms-i.is) is))
                 ∙ c.loop-i.invariant.same;
             room = omega (arith, number, room);
           }
@@ -34,7 +34,7 @@ loop-i-preserved c =
           let number = w.number-is in record {
             same =
                 (λ i. (w.blocks-is i).items ++ expiries later (number i))
-                ∙ sym (ap all (due_later alarms c.loop-i.i c.args.counter x c.loop-i-test.true c.index-alarms-i.is is))
+                ∙ sym (ap all (due_later alarms c.loop-i.i c.args.counter x x c.loop-i-test.true (sym c.index-alarms-i.is) is))
                 ∙ c.loop-i.invariant.same;
             room = omega (arith, number, room);
           }

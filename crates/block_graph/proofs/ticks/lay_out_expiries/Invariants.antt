@@ -1,7 +1,6 @@
 use Rattle.std.proofs.Common.{◌≡◌, ◌≤◌, ◌+◌, ◌++◌, drop}
-use Rattle.osek_standard.specs.Validity.{due_of}
+use Rattle.osek_standard.{specs.Validity.{due_of}, proofs.DueAlarms.{due_from}}
 use Rattle.block_graph.specs.Blocks.{expiries}
-use Rattle.block_graph.proofs.BlocksDue.{due_from}
 use Rattle.block_graph.proofs.ticks.lay_out_expiries.Given as goal
 
 abbrev pub invariant-loop-i : goal.invariant-loop-i

@@ -1,6 +1,5 @@
 use Rattle.std.proofs.Common.{◌≡◌, ◌≤◌, ◌+◌, drop, length}
-use Rattle.osek_standard.specs.Validity.{due_of}
-use Rattle.block_graph.proofs.BlocksDue.{due_from}
+use Rattle.osek_standard.{specs.Validity.{due_of}, proofs.DueAlarms.{due_from}}
 use Rattle.block_graph.proofs.ticks.routine_size.Given as goal
 
 abbrev pub invariant-loop-alarm : goal.invariant-loop-alarm

@@ -1,8 +1,9 @@
 use Rattle.std.proofs.Common.{◌≡◌, ◌<◌, ◌∙◌, List, length, map, Option, sym, ap, subst}
 use Rattle.osek_values.specs.declared.{event.Event.{Event}, numbers.ModeNo.{ModeNo}}
 use Rattle.image_model.specs.{declared.{image.Image.{Image}, site.Site.{Site}}, Laws.{IsKernelsRun}, Sites.{AreSites}}
-use Rattle.abstract_state.specs.{Tables.{Sets, Inductive, sets_of}, Forms.{HasDictatedForms, HasDictatedStatuses}}
-use Rattle.abstract_state.proofs.ImageLaws.{runs_as_kernel, dictated_statuses as no_more_than_dictated}
+use Rattle.abstract_state.specs.Tables.{Sets, Inductive, sets_of}
+use Rattle.dictated_forms.specs.Forms.{HasDictatedForms, HasDictatedStatuses}
+use Rattle.dictated_forms.proofs.ImageLaws.{runs_as_kernel, dictated_statuses as no_more_than_dictated}
 use Rattle.flow_check.specs.declared.found.Findings.{Findings}
 use Rattle.call_tailor.specs.Tailored.{site_of}
 use Rattle.call_tailor.proofs.DictatedForms.{are_sites, dictated_forms, dictated_statuses}

@@ -1,7 +1,7 @@
 use Rattle.std.proofs.Common.{sym, ◌∙◌, ap, List}
 use Rattle.std.specs.List.{list_any}
 use Rattle.command_words.specs.Forms.{Verb, takes, verb_of}
-use Rattle.command_words.proofs.VerbLists.{any_of_map}
+use Rattle.osek_values.proofs.Lists.{any_of_map}
 use Rattle.command_words.proofs.forms.is_verb.Goals as goal
 
 pub returns : goal.returns

@@ -2,7 +2,7 @@
 use Rattle.std.proofs.Common.{◌+◌, ◌<◌, ◌≤◌, ◌∙◌, length, refl, ap, subst, arith}
 use Rattle.std.specs.List.{flat_map}
 use Rattle.std.proofs.lemmas.List.{take_all}
-use Rattle.flow_text.specs.FindingLines.{finding_line}
+use Rattle.flow_report.specs.FindingLines.{finding_line}
 use Rattle.osek_io.specs.Sunk.{sunk}
 use Rattle.command_runs.specs.Playing.{given, Puts}
 use Rattle.command_runs.proofs.{GivenTexts.{puts_nothing}, Results.{on_err}}

@@ -1,7 +1,7 @@
 -- the lines so far were put
 use Rattle.std.proofs.Common.{◌≡◌, length, take}
 use Rattle.std.specs.List.{flat_map}
-use Rattle.flow_text.specs.FindingLines.{finding_line}
+use Rattle.flow_report.specs.FindingLines.{finding_line}
 use Rattle.osek_io.specs.Sunk.{sunk}
 use Rattle.command_runs.specs.Playing.{given, Puts}
 use Rattle.commands.proofs.reporting.print_findings.Given as goal

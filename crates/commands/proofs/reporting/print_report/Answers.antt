@@ -1,6 +1,6 @@
 -- all was printed, or a prefix of it
 use Rattle.std.proofs.Common.{ℕ, List, [], refl, subst, inl, inr}
-use Rattle.flow_text.specs.Texts.{report_text}
+use Rattle.flow_report.specs.FindingLines.{report_text}
 use Rattle.osek_io.specs.Sunk.{sunk}
 use Rattle.command_runs.specs.Playing.{given, Puts, PutsPrefix}
 use Rattle.command_runs.proofs.GivenTexts.{puts_flushed, flush_breaks}

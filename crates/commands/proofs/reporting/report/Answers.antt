@@ -5,7 +5,7 @@ use Rattle.std.specs.Prelude.{All}
 use Rattle.std.proofs.lemmas.List.Elements.{Contains-get_or}
 use Rattle.osek_standard.specs.declared.app.App.{App}
 use Rattle.flow_report.specs.{declared.finding.Finding.{Finding}, Findings.{IsOf}}
-use Rattle.flow_text.specs.Texts.{report_text}
+use Rattle.flow_report.specs.FindingLines.{report_text}
 use Rattle.command_runs.specs.{Inputs.{no_memory}, Outside.{Outside, outside}, declared.stop.Stop.{Stop}}
 use Rattle.commands.specs.{Compiling.{OfApp}, Printing.{PrintsWhole, PrintAnswers}, Reporting.{AreLeastFindings, TellsFindings, ReportAnswers, stops, tells}}
 use Rattle.commands.proofs.Compiles.{over_app}

@@ -1,8 +1,9 @@
 use Rattle.std.proofs.{Common.{List, subst, take}, lemmas.List.{take_all}}
 use Rattle.flow_exits.specs.declared.exit.Exit.{Exit}
 use Rattle.flow_rules.specs.{declared.group.ExitGroup.{ExitGroup}, Groups.{all_exits}}
+use Rattle.flow_rules.proofs.GroupLaws.{groups_more}
 use Rattle.flow_check.specs.Outcomes.{AreOfExits}
-use Rattle.flow_check.proofs.ExitOutcomes.{findings_of_none, groups_more}
+use Rattle.flow_check.proofs.ExitOutcomes.{findings_of_none}
 use Rattle.flow_check.proofs.outcomes.found_in.Goals as goal
 
 pub loop-group-init : goal.loop-group-init

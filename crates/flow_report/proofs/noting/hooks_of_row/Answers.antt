@@ -1,9 +1,8 @@
 use Rattle.std.proofs.{Common.{◌∙◌, ◌+◌, List, subst, take}, lemmas.List.{take_all}}
 use Rattle.flow_rules.specs.{declared.group.ExitGroup.{ExitGroup}, Groups.{exits_of, all_exits}}
-use Rattle.flow_rules.proofs.EntryCounts.{filled_numbers}
+use Rattle.flow_rules.proofs.{EntryCounts.{filled_numbers}, GroupLaws.{groups_more}}
 use Rattle.numbered_sets.specs.PlainTables.{plain_row}
 use Rattle.numbered_sets.proofs.WrittenRows.{number_domains_of}
-use Rattle.flow_check.proofs.ExitOutcomes.{groups_more}
 use Rattle.flow_report.specs.Noting.{AreHooks, NotesByExit}
 use Rattle.flow_report.proofs.{NotedHooks.{exits_begun, exits_noted}, NotedRows.{hooks_in_row}}
 use Rattle.flow_report.proofs.noting.hooks_of_row.Goals as goal

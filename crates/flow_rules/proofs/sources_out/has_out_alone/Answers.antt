@@ -1,4 +1,4 @@
-use Rattle.std.proofs.Common.{◌≡◌, Bool, true, false, not, refl, sym, ◌∙◌}
+use Rattle.std.proofs.Common.{◌≡◌, Bool, true, false, not, refl, ◌∙◌}
 use Rattle.std.proofs.lemmas.Bool.{OnFalse_at, OnTrue_from}
 use Rattle.abstract_state.specs.declared.value.PartValue.TheVariants.{OfSource}
 use Rattle.abstract_state.specs.declared.value.SourceVal.TheVariants as source_val

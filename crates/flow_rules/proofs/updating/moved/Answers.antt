@@ -2,9 +2,9 @@ use Rattle.std.proofs.Common.{◌≡◌, ◌<◌, ◌+◌, List, [], length, tak
 use Rattle.abstract_state.specs.{declared.value.{Domain.{Domain}, PartValue.{PartValue}}, Domains.{IsWithin}}
 use Rattle.flow_model.specs.Tests.{value_after}
 use Rattle.numbered_sets.specs.{Numbers.{numbers, has_number}, Pools.{values_at}, Views.{values_with}}
-use Rattle.numbered_sets.proofs.{NumberingLaws.{same_domain}, PlainLaws.{member_of_plain, value_with_number}}
+use Rattle.numbered_sets.proofs.{MadeLaws.{one_value, value_there}, NumberingLaws.{same_domain}, PlainLaws.{member_of_plain, value_with_number}}
 use Rattle.flow_rules.specs.{Applying.{IsPassedSoFar}, Changing.{making}}
-use Rattle.flow_rules.proofs.NumbersPassing.{next_value, values_skip_to, passed_begun, passed_whole, number_on, number_there, one_value}
+use Rattle.flow_rules.proofs.NumbersPassing.{next_value, values_skip_to, passed_begun, passed_whole, number_on}
 use Rattle.flow_rules.proofs.updating.moved.Goals as goal
 
 pub loop-number-init : goal.loop-number-init
@@ -25,7 +25,7 @@ put_updated-requires-clause-domain c = λ v is.
     let before = c.args.pool.now in
     let place = c.args.component in
     let known : c.loop-number.number < length (values_at before place) = omega (arith, c.loop-number-test.true, c.len-count.ensures) in
-    let there = number_there (values_at before place) c.loop-number.number known in
+    let there = value_there (values_at before place) c.loop-number.number known in
     let same : there.0 ≡ v = one_value (values_at c.loop-number.pool place) there.0 v c.loop-number.number (number_on before c.loop-number.pool place c.loop-number.number there.0 c.loop-number.invariant.0.longer there.1) is in
     let member = member_of_plain (values_at before place) c.args.numbers.now v
     ∙ value_with_number (values_at before place) (has_number c.args.numbers.now) c.loop-number.number v known (there.1.is v ∙ same) (c.loop-number.invariant.2 c.loop-number-test.true) in
@@ -40,7 +40,7 @@ loop-number-preserved c =
     let number = c.loop-number.number in
     let values = values_at before place in
     let known : number < length values = omega (arith, c.loop-number-test.true, c.len-count.ensures) in
-    let there = number_there values number known in
+    let there = value_there values number known in
     let P : List PartValue → Type 0 = λ done. IsPassedSoFar (making c.args.changes.now) before place old.domain done c.put_updated.new.pool c.put_updated.new.new in
     let here = number_on before c.loop-number.pool place number there.0 c.loop-number.invariant.0.longer there.1 in
     let next = c.in_ok-put_updated.ensures.passed before old.domain (values_with (take number values) (has_number old)) there.0 here c.loop-number.invariant.0 in

@@ -2,9 +2,9 @@ use Rattle.std.proofs.Common.{◌≡◌, ◌++◌, ◌∷◌, [], List, set, ref
 use Rattle.abstract_state.specs.{declared.value.PartValue.{PartValue}, Domains.{IsWithin}}
 use Rattle.flow_model.specs.{declared.change.Change.{Change}, Tests.{value_after}}
 use Rattle.numbered_sets.specs.{Numbers.{Numbers}, Pools.{values_at, seen_at, value_seen, domain_at, IsNumberOf, IsLonger}}
-use Rattle.numbered_sets.proofs.ViewLaws.{longer_with}
+use Rattle.numbered_sets.proofs.{MadeLaws.{one_value}, ViewLaws.{longer_with}}
 use Rattle.flow_rules.specs.{Applying.{IsPassedSoFar}, Changing.{making}}
-use Rattle.flow_rules.proofs.NumbersPassing.{passed_more, one_value}
+use Rattle.flow_rules.proofs.NumbersPassing.{passed_more}
 use Rattle.flow_rules.proofs.updating.put_updated.Goals as goal
 
 pub number-requires-clause-within : goal.number-requires-clause-within

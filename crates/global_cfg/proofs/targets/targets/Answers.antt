@@ -1,11 +1,11 @@
 use Rattle.std.proofs.{Common.{rules, [], ◌∙◌, List, subst, take}, lemmas.List.{take_all}}
 use Rattle.flow_exits.specs.declared.exit.Exit.{Exit}
 use Rattle.flow_rules.specs.{declared.group.ExitGroup.{ExitGroup}, Groups.{exits_of, all_exits}}
-use Rattle.flow_rules.proofs.EntryCounts.{filled_numbers}
+use Rattle.flow_rules.proofs.{EntryCounts.{filled_numbers}, GroupLaws.{groups_more}}
 use Rattle.numbered_sets.specs.PlainTables.{plain_row}
 use Rattle.numbered_sets.proofs.WrittenRows.{number_domains_of}
 use Rattle.global_cfg.specs.Targets.{AreEndsPut}
-use Rattle.global_cfg.proofs.{PointPlaces.{order_none}, PuttingIn.{no_exits, exits_then, more_groups}, ExitTargets.{ends_are_targets}}
+use Rattle.global_cfg.proofs.{PointPlaces.{order_none}, PuttingIn.{no_exits, exits_then}, ExitTargets.{ends_are_targets}}
 use Rattle.global_cfg.proofs.targets.targets.Goals as goal
 
 pub exit_groups-requires-clause-domains : goal.exit_groups-requires-clause-domains
@@ -26,7 +26,7 @@ loop-group-preserved c = λ pool.
     let i = c.loop-group.group-index in
     let group = c.group-item.result in
     let p = c.args.row.now.point in
-    subst (λ (done : List Exit). AreEndsPut p done [] c.put_group.new.points.items) (more_groups pool items i group c.loop-group-test.true c.group-item.is)
+    subst (λ (done : List Exit). AreEndsPut p done [] c.put_group.new.points.items) (groups_more pool items i group c.loop-group-test.true c.group-item.is)
     (exits_then p (all_exits pool (take i items)) (exits_of pool group) [] c.loop-group.targets.items c.put_group.new.points.items (c.loop-group.invariant pool) (c.in_ok-put_group.ensures pool))
 
 pub returns-clause-targets : goal.returns-clause-targets

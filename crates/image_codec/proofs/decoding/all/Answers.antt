@@ -1,8 +1,9 @@
 -- nothing is left after the parts
 use Rattle.std.proofs.Common.{◌≡◌, ◌∙◌, ℕ, List, length, Ok, ap, arith}
 use Rattle.std.specs.Prelude.{◌==◌}
-use Rattle.image_codec.specs.{declared.{parts.Parts.{Parts}, fault.ImageRule.TheVariants.{I6}}, Reading.{Read, ◌>>=◌, kept}, BlockReading.{parts_at, all_at}}
-use Rattle.image_codec.proofs.Spells.{kept_again}
+use Rattle.image_codec.specs.{declared.parts.Parts.{Parts}, ImageReading.{parts_at, all_at}}
+use Rattle.image_fields.specs.{declared.fault.ImageRule.TheVariants.{I6}, Reading.{Read, ◌>>=◌, kept}}
+use Rattle.image_fields.proofs.Steps.{kept_again}
 use Rattle.image_codec.proofs.decoding.all.Goals as goal
 
 whole : (bytes rest : List ℕ) (p : Parts) → parts_at bytes ≡ Ok (p, rest) → length rest ≡ 0 → all_at bytes ≡ Ok (p, rest)

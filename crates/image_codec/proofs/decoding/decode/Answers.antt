@@ -1,5 +1,5 @@
 use Rattle.std.proofs.Common.{◌∙◌, refl, sym, ap, arith}
-use Rattle.image_codec.specs.BlockReading.{all_at}
+use Rattle.image_codec.specs.ImageReading.{all_at}
 use Rattle.image_codec.proofs.{PartsLaws.{all_takes}, ValidOfGood.{valid_parts, alone_parts, fits_parts, sites_parts}}
 use Rattle.image_codec.proofs.{DecodeLaws.{its_spelling, its_reading, its_fault}, GoodOfValid.{only_image, no_image}}
 use Rattle.image_codec.proofs.decoding.decode.Goals as goal

@@ -1,6 +1,6 @@
 use Rattle.std.proofs.Common.{sym, ap, ◌∙◌, arith}
 use Rattle.std.specs.Prelude.{Some}
-use Rattle.std.proofs.lemmas.Result.{err_from_is_err_and}
+use Rattle.std.proofs.lemmas.Result.{MatchResult-weaker, err_from_is_err_and}
 use Rattle.osek_values.proofs.Refusals.{refuses_map}
 use Rattle.task_code.specs.Words.{statement_word}
 use Rattle.task_code.proofs.StatementsRead.{reads_block, reads_if, reads_if_else, reads_while, reads_statement, reads_close, stops_in_else, stops_behind_condition, list_joins, list_takes, list_within, list_stops, stops_at_word, stops_behind_word, stops_in_block, stops_not_open}
@@ -63,34 +63,25 @@ statement-returns-in_default t c =
     let kind = ap statement_word (sym c.as_bytes.ensures.bytes) ∙ sym c.in_default.ensures in
     stops_at_word _ _ _ _ kind
 
-pub statement-returns-in_err-read-in-If : goal.statement-returns-in_err-read-in-If
-statement-returns-in_err-read-in-If t c =
-    let kind = ap statement_word (sym c.as_bytes.ensures.bytes) ∙ sym c.in-Some.ensures ∙ ap Some c.in-If.is in
-    let p = err_from_is_err_and c.from_residual-in_err-read-in-If.result c.from_residual-in_err-read-in-If.ensures.1 in
-    rw (p.1, p.2) (refuses_map c.in_err-read-in-If.field-0.0 _ _ (λ stop h. stops_behind_word _ _ _ _ _ stop kind h) c.in_err-read-in-If.ensures)
-
-pub statement-returns-in_err-read-in-While : goal.statement-returns-in_err-read-in-While
-statement-returns-in_err-read-in-While t c =
-    let kind = ap statement_word (sym c.as_bytes.ensures.bytes) ∙ sym c.in-Some.ensures ∙ ap Some c.in-While.is in
-    let p = err_from_is_err_and c.from_residual-in_err-read-in-While.result c.from_residual-in_err-read-in-While.ensures.1 in
-    rw (p.1, p.2) (refuses_map c.in_err-read-in-While.field-0.0 _ _ (λ stop h. stops_behind_word _ _ _ _ _ stop kind h) c.in_err-read-in-While.ensures)
-
 pub statement-returns-in_ok-read-in-Work : goal.statement-returns-in_ok-read-in-Work
 statement-returns-in_ok-read-in-Work t c =
     let kind = ap statement_word (sym c.as_bytes.ensures.bytes) ∙ sym c.in-Some.ensures ∙ ap Some c.in-Work.is in
     reads_statement _ _ _ _ _ _ _ kind (c.in_ok-read-in-Work.ensures _)
 
-pub statement-returns-in_ok-read-in-If : goal.statement-returns-in_ok-read-in-If
-statement-returns-in_ok-read-in-If t c =
+pub statement-returns-in-If : goal.statement-returns-in-If
+statement-returns-in-If t c =
     let kind = ap statement_word (sym c.as_bytes.ensures.bytes) ∙ sym c.in-Some.ensures ∙ ap Some c.in-If.is in
-    reads_statement _ _ _ _ _ _ _ kind c.in_ok-read-in-If.ensures
+    MatchResult-weaker c.conditional.result c.conditional.ensures (λ x read. reads_statement _ _ _ _ _ _ _ kind read)
+    (λ e h. refuses_map e _ _ (λ stop k. stops_behind_word _ _ _ _ _ stop kind k) h)
 
-pub statement-returns-in_ok-read-in-While : goal.statement-returns-in_ok-read-in-While
-statement-returns-in_ok-read-in-While t c =
+pub statement-returns-in-While : goal.statement-returns-in-While
+statement-returns-in-While t c =
     let kind = ap statement_word (sym c.as_bytes.ensures.bytes) ∙ sym c.in-Some.ensures ∙ ap Some c.in-While.is in
-    reads_statement _ _ _ _ _ _ _ kind c.in_ok-read-in-While.ensures
+    MatchResult-weaker c.repetition.result c.repetition.ensures (λ x read. reads_statement _ _ _ _ _ _ _ kind read)
+    (λ e h. refuses_map e _ _ (λ stop k. stops_behind_word _ _ _ _ _ stop kind k) h)
 
-pub statement-returns-in_ok-read-in-Service : goal.statement-returns-in_ok-read-in-Service
-statement-returns-in_ok-read-in-Service t c =
+pub statement-returns-in-Service : goal.statement-returns-in-Service
+statement-returns-in-Service t c =
     let kind = ap statement_word (sym c.as_bytes.ensures.bytes) ∙ sym c.in-Some.ensures ∙ ap Some c.in-Service.is in
-    reads_statement _ _ _ _ _ _ _ kind (c.in_ok-read-in-Service.ensures _)
+    MatchResult-weaker c.service_call.result c.service_call.ensures (λ x read. reads_statement _ _ _ _ _ _ _ kind (read _))
+    (λ e h. refuses_map e _ _ (λ stop k. stops_behind_word _ _ _ _ _ stop kind (k _)) h)

@@ -1,5 +1,0 @@
-use Rattle.abstract_state.proofs.ImageLaws.{dictated_fit, same_step, runs_as_kernel}
-use Rattle.abstract_state.proofs.laws.dictated_forms_are_the_kernel.Goals as goal
-
-pub returns : goal.returns
-returns c = record { fit = dictated_fit; step = same_step; run = runs_as_kernel }

@@ -1,5 +1,0 @@
-use Rattle.flow_text.proofs.FindingsApart.{finding_once}
-use Rattle.flow_text.proofs.laws.a_line_tells_one_finding.Goals as goal
-
-pub returns : goal.returns
-returns c = finding_once

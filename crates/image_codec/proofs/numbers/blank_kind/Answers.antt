@@ -1,4 +1,0 @@
-use Rattle.image_codec.proofs.numbers.blank_kind.Goals as goal
-
-pub returns : goal.returns
-returns c = c.kind_of.ensures
