@@ -65,7 +65,10 @@ quick_trace() {
 }
 
 echo 'A quick build of the program, which is not proved: one to two minutes on a quiet machine.'
-[ -n "$quick" ] || echo "Then the proved program: $("$here/tools/prove.py" --plan) on a quiet machine, less what an earlier build there kept."
+if [ -z "$quick" ]; then
+  echo "Then the proved program: $("$here/tools/prove.py" --plan), less what an earlier build kept."
+  echo 'It may be interrupted at any time: what is proved by then is kept, and the next run goes on behind it.'
+fi
 echo "The trace of ${names[0]} and ${names[1]}, by the quick build:"
 status=0
 dotted quick_trace || status=$?
@@ -85,14 +88,10 @@ case $kit in
   *"$wanted"*) ;;
   *) echo "first.sh: the kit is $kit, where README has $wanted: another logic decides what is proved" >&2 ;;
 esac
-echo 'The proved program, a line a crate as each is done:'
+echo 'The proved program, a line a crate as each is done, osekfit itself last:'
 "$here/tools/prove.py" || exit 1
-# Run without words the program says `usage`, with status 2. That it was proved and runs, rt says itself.
-start=$SECONDS
-(cd "$here/crates/osekfit" && rt run) >"$log" 2>&1 || true
 program=$here/crates/osekfit/out/osekfit
-grep -q '^rt: running out/osekfit' "$log" && [ -x "$program" ] || stop 'osekfit was not proved; above is what rt said'
-echo "  osekfit: proved ($((SECONDS - start)) s)"
+[ -x "$program" ] || fail 'osekfit was proved, and the program is not there'
 
 echo 'The image of examples/first, built and replayed by it:'
 "$program" build "${files[0]}" "${files[1]}" "$scratch/image"

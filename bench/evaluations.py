@@ -14,7 +14,7 @@ import tempfile
 
 sys.path.insert(0, os.path.join(os.path.dirname(os.path.dirname(os.path.abspath(__file__))), 'tools'))
 
-import given
+from lib import given
 
 TABLE, EXITS = 'commands::fitting::least_table', 'flow_rules::exits::exit_groups'
 

@@ -15,7 +15,7 @@ from collections import namedtuple
 
 sys.path.insert(0, os.path.join(os.path.dirname(os.path.dirname(os.path.abspath(__file__))), 'tools'))
 
-import given
+from lib import given
 
 Size = namedtuple('Size', 'tasks isrs counters alarms resources events modes blocks')
 """How many there are of each: resources are those declared beside RES_SCHEDULER, OSDEFAULTAPPMODE is one of the modes, and blocks

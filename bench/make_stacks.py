@@ -15,7 +15,7 @@ from collections import namedtuple
 
 sys.path.insert(0, os.path.join(os.path.dirname(os.path.dirname(os.path.abspath(__file__))), 'tools'))
 
-import given
+from lib import given
 
 Size = namedtuple('Size', 'resources tasks activations queued', defaults=[1])
 """How many resources there are, which each task names, how many tasks, how many activations each has in its loop, and how many it takes at once."""

@@ -1,16 +1,13 @@
 #!/usr/bin/env python3
-"""Measures a built osekfit on applications of growing size.
+"""Measures a built osekfit, and prints a table a subject, as docs/PERFORMANCE.md has them: commands by the size of an application, `show` by
+resources and activations, events a second, and applications on which the analysis takes long.
 
-For each number of tasks it makes an application by a seed, runs `build` and `show` on it, and `replay` of as many random events
-as asked for, each in a process of its own. The table gives user and system time in seconds, the largest memory in MB, and the
-numbers that the program prints; behind `replay` stands the time that md5sum needs for the trace. A second table has the other
-commands on the same applications: `report`, `certify`, `check`, `record` of the same events, and `watch` of that record (its analysis
-apart, which is what a record of one point takes); behind both stands the time that md5sum needs for the record. A third table is of
-applications whose tasks hold resources in every order, or take many activations (`make_stacks.py`): `show`, and how many times as long it
-takes as md5sum needs for 100 MB here. The last line is that time, to compare machines by.
+Each command is a process of its own: times are user and system time in seconds, memory is the largest that the process had, in MB. A last line
+has the time that md5sum takes for 100 MB, to compare machines by. With --page the tables take the place of those of a page.
 
     bench/run.py crates/osekfit/out/osekfit
-    bench/run.py --tasks 2,4 --events 10000 --stacks 5x1,5x4x72 crates/osekfit/out/osekfit
+    bench/run.py --tasks 2,4 --stacks 5x1,5x4x72 --worst waits:100:100:8 --events 10000 crates/osekfit/out/osekfit
+    bench/run.py --page docs/PERFORMANCE.md crates/osekfit/out/osekfit
 """
 import os
 import shutil
@@ -22,9 +19,11 @@ from collections import namedtuple
 
 sys.path.insert(0, os.path.join(os.path.dirname(os.path.dirname(os.path.abspath(__file__))), 'tools'))
 
-import given
+from lib import given
+
 import make_app
 import make_stacks
+import make_worst
 
 Run = namedtuple('Run', 'status seconds megabytes')
 """How a process ended: its status (None where it was stopped, for its time or by a signal), its time, its largest memory."""
@@ -32,6 +31,9 @@ Run = namedtuple('Run', 'status seconds megabytes')
 MODE = 'OSDEFAULTAPPMODE'
 
 CHECKED_BYTES = 100 * 1000 * 1000
+
+NESTING = 8
+"""How many routines nest, where they do."""
 
 
 def run(words, folder, out, limit):
@@ -63,6 +65,7 @@ def memory_of(process):
     return 0 if mine or len(words) < 2 else int(words[1][1])
 
 
+
 def counts_of(folder):
     """The numbers of the last line of show, and how many sites have each form."""
     with open(os.path.join(folder, 'show.out'), encoding='ascii', errors='replace') as file:
@@ -74,77 +77,90 @@ def counts_of(folder):
     return counts
 
 
-def measured(program, tasks, words, folder):
-    """A line of the table for so many tasks."""
-    make_app.write_app(make_app.usual_size(tasks), words.seed, words.events, folder)
-    runs = [run([program, 'build', 'app.oil', 'app.code', 'app.image'], folder, 'build.out', words.limit),
-            run([program, 'show', 'app.oil', 'app.code'], folder, 'show.out', words.limit)]
-    if os.path.exists(os.path.join(folder, 'app.image')):
-        runs.append(run([program, 'replay', 'app.image', MODE, 'app.events'], folder, 'replay.out', words.limit))
-        checked = ['%.2f' % run(['md5sum', 'replay.out'], folder, 'md5sum.out', words.limit).seconds]
-    else:
-        checked = []
-    counts = counts_of(folder) if runs[1].status == 0 else {}
-    cells = [str(tasks)] + [counts.get(name, '-') for name in ('points', 'values', 'edges', 'forms')]
-    return cells + [cell for one in runs for cell in cells_of(one)] + checked
+TEXTS = ['app.oil', 'app.code']
+
+COMMANDS = {'build': [*TEXTS, 'app.image'], 'show': TEXTS, 'report': TEXTS, 'certify': [*TEXTS, 'app.image', 'app.table'],
+            'check': ['app.image', 'app.table']}
+"""The commands of the first table, with their words."""
+
+PLAYS = {'replay': ['app.image', MODE, 'app.events'], 'trace': [*TEXTS, MODE, 'app.events'], 'record': ['app.image', MODE, 'app.events'],
+         'watch': [*TEXTS, 'record.out']}
+"""Those that go through events or points."""
 
 
-def first_line(whole, first):
-    """Writes the first line of a file to another one."""
-    with open(whole, 'rb') as file, open(first, 'wb') as one:
-        one.write(file.readline())
+class Bench:
+    """What all tables share: the program, how long one command may take, and how often it runs."""
+
+    def __init__(self, words, folder):
+        self.program, self.limit, self.times, self.folder = os.path.abspath(words.program), words.limit, words.times, folder
+
+    def least(self, name, words, at):
+        """The shortest of some runs of a command, whose output goes to a file of its name."""
+        runs = [run([self.program, name] + words, os.path.join(self.folder, at), name + '.out', self.limit) for _ in range(self.times)]
+        return min(runs, key=lambda one: (one.status is None, one.seconds))
+
+    def checksum(self):
+        with open(os.path.join(self.folder, 'zeros'), 'wb') as file:
+            file.truncate(CHECKED_BYTES)
+        return min(run(['md5sum', 'zeros'], self.folder, 'md5sum.out', 600).seconds for _ in range(max(3, self.times)))
 
 
-def measured_others(program, tasks, words, folder):
-    """A line of the second table, in a folder where the first one's was measured."""
-    runs = [run([program, 'report', 'app.oil', 'app.code'], folder, 'report.out', words.limit),
-            run([program, 'certify', 'app.oil', 'app.code', 'app.image', 'app.table'], folder, 'certify.out', words.limit),
-            run([program, 'check', 'app.image', 'app.table'], folder, 'check.out', words.limit),
-            run([program, 'record', 'app.image', MODE, 'app.events'], folder, 'app.record', words.limit)]
-    first_line(os.path.join(folder, 'app.record'), os.path.join(folder, 'one.record'))
-    checked = run(['md5sum', 'app.record'], folder, 'md5sum.out', words.limit).seconds
-    one = run([program, 'watch', 'app.oil', 'app.code', 'one.record'], folder, 'one.out', words.limit)
-    whole = run([program, 'watch', 'app.oil', 'app.code', 'app.record'], folder, 'watch.out', words.limit)
-    watched = Run(whole.status, max(0.0, whole.seconds - one.seconds), whole.megabytes)
-    return [str(tasks)] + [cell for each in runs + [watched] for cell in cells_of(each)] + ['%.2f' % checked]
+def told_seconds(one):
+    return '%.3f' % one.seconds if one.status == 0 else 'stopped' if one.status is None else 'status %d' % one.status
 
 
-def measured_stacks(program, size, is_nested, words, folder, checksum):
-    """A line of the third table."""
-    make_stacks.write_app(size, folder, is_nested)
-    shown = run([program, 'show', 'app.oil', 'app.code'], folder, 'show.out', words.limit)
-    counts = counts_of(folder) if shown.status == 0 else {}
-    times = '%.2f' % (shown.seconds / checksum) if shown.status == 0 else '-'
-    order = 'one' if is_nested else 'any'
-    return [str(number) for number in size] + [order] + [counts.get(name, '-') for name in ('points', 'values', 'edges')] + cells_of(shown) + [times]
+def told_megabytes(*runs):
+    return '%.1f' % max(one.megabytes for one in runs)
 
 
-def cells_of(one):
-    seconds = '%.2f' % one.seconds if one.status == 0 else 'stopped' if one.status is None else 'status %d' % one.status
-    return [seconds, '%.1f' % one.megabytes]
+def application(tasks, nests):
+    return '%d tasks, %d nesting routines' % (tasks, NESTING) if nests else '%d tasks' % tasks
 
 
-def checksum_seconds(folder):
-    with open(os.path.join(folder, 'zeros'), 'wb') as file:
-        file.truncate(CHECKED_BYTES)
-    return run(['md5sum', 'zeros'], folder, 'md5sum.out', 600).seconds
+def sizes_of(text):
+    """The applications that the option names: numbers of tasks, with an n where routines nest."""
+    for part in text.split(','):
+        tasks, nests = int(part.rstrip('n')), part.endswith('n')
+        size = make_app.usual_size(tasks)
+        yield tasks, nests, size._replace(isrs=NESTING) if nests else size
 
 
-def printed(cells, widths):
-    print('  '.join(cell.rjust(width) for cell, width in zip(cells, widths)), flush=True)
+def by_size(bench, words):
+    """The commands, by the size of an application."""
+    yield ['application', 'points', 'values', 'edges', 'never/stay/direct/general'] + [name + ' s' for name in COMMANDS] + ['MB']
+    for tasks, nests, size in sizes_of(words.tasks):
+        at = os.path.join(bench.folder, application(tasks, nests))
+        make_app.write_app(size, words.seed, words.events, at, nests)
+        runs = [bench.least(name, COMMANDS[name], at) for name in COMMANDS]
+        counts = counts_of(at)
+        yield [application(tasks, nests)] + [counts.get(name, '-') for name in ('points', 'values', 'edges', 'forms')] + \
+            [told_seconds(one) for one in runs] + [told_megabytes(*runs)]
 
 
-def arguments():
-    parser = given.Parser(__doc__)
-    parser.add_argument('program', metavar='PROGRAM', help='the built osekfit')
-    parser.add_argument('--tasks', default='2,4,8,16', help='numbers of tasks, parted by commas')
-    parser.add_argument('--stacks', default='5x1x0,6x1x0,7x1x0,5x4x72,6x8x100,1x16x8x255,8x1x2x255n',
-                        help='resources x tasks x calls x activations, n where resources are taken in one order; parted by commas')
-    parser.add_argument('--events', type=int, default=1000000, metavar='N', help='how many events are replayed')
-    parser.add_argument('--seed', type=int, default=1)
-    parser.add_argument('--limit', type=float, default=600, metavar='SECONDS', help='how long one command may take')
-    parser.add_argument('--keep', metavar='DIR', help='where the texts and outputs are kept')
-    return parser.parse_args()
+def by_events(bench, words):
+    """Events or points a second, over the applications of the first table."""
+    yield ['application'] + ['%s, million a second' % name for name in PLAYS] + ['MB', 'bytes a line of the trace']
+    for tasks, nests, _ in sizes_of(words.tasks):
+        at = os.path.join(bench.folder, application(tasks, nests))
+        runs = [bench.least(name, PLAYS[name], at) for name in PLAYS]
+        length = os.path.getsize(os.path.join(at, 'replay.out')) // (words.events + 1)
+        yield [application(tasks, nests)] + [rate(one, words.events) for one in runs] + [told_megabytes(*runs), str(length)]
+
+
+def rate(one, events):
+    return '%.1f' % (events / max(one.seconds, 0.001) / 1e6) if one.status == 0 else told_seconds(one)
+
+
+def by_stacks(bench, words):
+    """`show` by resources and activations."""
+    yield ['resources', 'taken in', 'tasks', 'calls', 'ACTIVATION', 'points', 'values', 'edges', 'show s', 'MB']
+    for size, is_nested in stack_sizes(words.stacks):
+        at = os.path.join(bench.folder, 'stacks')
+        make_stacks.write_app(size, at, is_nested)
+        shown = bench.least('show', TEXTS, at)
+        counts = counts_of(at) if shown.status == 0 else {}
+        yield [str(size.resources), 'one order' if is_nested else 'any order', str(size.tasks), str(size.activations), str(size.queued)] + \
+            [counts.get(name, '-') for name in ('points', 'values', 'edges')] + [told_seconds(shown), told_megabytes(shown)]
 
 
 def stack_sizes(text):
@@ -155,41 +171,70 @@ def stack_sizes(text):
         yield make_stacks.Size(*(size + [1, 0, 1][len(size) - 1:])), part.endswith('n')
 
 
-STACK_HEADINGS = ['resources', 'tasks', 'calls', 'queued', 'order', 'points', 'values', 'edges', 'show s', 'MB', 'md5sums']
+def by_worst(bench, words):
+    """`show` of applications on which the analysis takes long."""
+    yield ['family of `bench/make_worst.py`', 'bytes of text', 'points', 'values', 'edges', 'show s', 'MB']
+    for part in (part for part in words.worst.split(',') if part):
+        family, *numbers = part.split(':')
+        at = os.path.join(bench.folder, 'worst')
+        size = make_worst.write_app(family, [int(number) for number in numbers], at)
+        shown = bench.least('show', TEXTS, at)
+        counts = counts_of(at) if shown.status == 0 else {}
+        yield [' '.join([family] + numbers), str(size)] + [counts.get(name, '-') for name in ('points', 'values', 'edges')] + \
+            [told_seconds(shown), told_megabytes(shown)]
 
-OTHER_HEADINGS = ['tasks', 'report s', 'MB', 'certify s', 'MB', 'check s', 'MB', 'record s', 'MB', 'watch s', 'MB', 'md5sum s']
 
-HEADINGS = ['tasks', 'points', 'values', 'edges', 'n/s/d/g', 'build s', 'MB', 'show s', 'MB', 'replay s', 'MB', 'md5sum s']
+TABLES = {'size': by_size, 'events': by_events, 'stacks': by_stacks, 'worst': by_worst}
+"""The tables, by the names that their marks have in a page."""
+
+
+def shown(rows):
+    """A table as a page has it."""
+    rows = list(rows)
+    return '\n'.join('| %s |' % ' | '.join(cells) for cells in [rows[0], ['---'] * len(rows[0])] + rows[1:]) + '\n'
+
+
+def replaced(page, name, text):
+    """A page with another text between the marks of a table."""
+    begin, end = '<!-- %s -->\n' % name, '<!-- end of %s -->\n' % name
+    before, found, rest = page.partition(begin)
+    _, ended, after = rest.partition(end)
+    if not found or not ended:
+        raise given.Wrong('the page has no marks of %s' % name)
+    return before + begin + text + end + after
+
+
+def arguments():
+    parser = given.Parser(__doc__)
+    parser.add_argument('program', metavar='PROGRAM', help='the built osekfit')
+    parser.add_argument('--tasks', default='2,4,8,12,16,8n,16n', help='numbers of tasks, n where routines nest; parted by commas')
+    parser.add_argument('--stacks', default='6x1,7x1,5x4x72,6x8x100,1x2x2x255,8x1x2x255n,1x16x8x255',
+                        help='resources x tasks x calls x activations, n where resources are taken in one order; parted by commas')
+    parser.add_argument('--worst', default='stacks:5:8:60,waits:400:400:32,routine_waits:500:8:50,alarm_waits:900:16,routines:8:120',
+                        help='families of make_worst.py with their numbers; parted by commas')
+    parser.add_argument('--events', type=int, default=1000000, metavar='N', help='how many events are played')
+    parser.add_argument('--seed', type=int, default=1)
+    parser.add_argument('--times', type=int, default=3, metavar='N', help='how often each command runs; the shortest counts')
+    parser.add_argument('--limit', type=float, default=600, metavar='SECONDS', help='how long one command may take')
+    parser.add_argument('--page', metavar='FILE', help='the page in which the tables are put')
+    return parser.parse_args()
 
 
 def main():
     words = arguments()
-    program = os.path.abspath(words.program)
-    folder = os.path.abspath(words.keep) if words.keep else tempfile.mkdtemp(prefix='osekfit-bench-')
-    os.makedirs(folder, exist_ok=True)
-    widths = [5, 6, 9, 7, 15, 8, 5, 8, 5, 8, 5, 8]
-    print('forms: never/stay/direct/general; replay of %d events; seed %d' % (words.events, words.seed))
-    printed(HEADINGS, widths)
-    sizes = [int(number) for number in words.tasks.split(',')]
+    page = given.contents(words.page) if words.page else None
+    folder = tempfile.mkdtemp(prefix='osekfit-bench-')
     try:
-        for tasks in sizes:
-            printed(measured(program, tasks, words, os.path.join(folder, 'tasks%d' % tasks)), widths)
-        other_widths = [5, 8, 5, 9, 5, 8, 5, 8, 5, 8, 5, 8]
-        print()
-        printed(OTHER_HEADINGS, other_widths)
-        for tasks in sizes:
-            printed(measured_others(program, tasks, words, os.path.join(folder, 'tasks%d' % tasks)), other_widths)
-        checksum = checksum_seconds(folder)
-        stack_widths = [9, 5, 5, 6, 5, 6, 9, 7, 8, 6, 7]
-        print()
-        printed(STACK_HEADINGS, stack_widths)
-        for size, is_nested in stack_sizes(words.stacks):
-            name = 'stacks' + 'x'.join(map(str, size)) + ('n' if is_nested else '')
-            printed(measured_stacks(program, size, is_nested, words, os.path.join(folder, name), checksum), stack_widths)
-        print('md5sum of 100 MB: %.2f s' % checksum)
+        bench = Bench(words, folder)
+        tables = {name: shown(rows(bench, words)) for name, rows in TABLES.items()}
+        tables['md5sum'] = '`md5sum` of 100 MB took %.2f s there.\n' % bench.checksum()
     finally:
-        if not words.keep:
-            shutil.rmtree(folder)
+        shutil.rmtree(folder)
+    for name, text in tables.items():
+        page = replaced(page, name, text) if page is not None else print(text)
+    if page is not None:
+        with open(words.page, 'w', encoding='utf-8', newline='\n') as file:
+            file.write(page)
 
 
 if __name__ == '__main__':

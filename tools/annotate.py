@@ -10,40 +10,22 @@ says what event texts reached of an application.
     tools/annotate.py --coverage a.oil a.code a.events b.events            statements and choices that these reached
     tools/annotate.py --coverage --show a.show a.oil a.code a.events       with outcomes of sites and edges of `osekfit show`
 
-Without what osekfit printed, the task code is annotated by the least table of the model in model.py, which is for small applications. Of a
-site the margin has its block, its form, and its known status where one is known. Which statement did a line of a trace is told by that model,
-which plays the events too. A given trace has to be what the model prints, and each edge that is taken has to be one of `show`: where not,
-this is told and the status is 2. With --least N the status of --coverage is 1 where less than N percent of some row was reached.
+Without what osekfit printed, the task code is annotated by the least table of the model in model.py, which is for small applications; where it
+is too large, a built osekfit is asked that --program names, or that is found. Of a site the margin has its block, its form, and its known status
+where one is known. Which statement did a line of a trace is told by that model, which plays the events too. A given trace has to be what the
+model prints, and each edge that is taken has to be one of `show`: where not, this is told and the status is 2. With --least N the status of
+--coverage is 1 where less than N percent of some row was reached.
 """
 import os
 import sys
 
-import covered
-import margin
-import model
-from given import Parser, Wrong, contents, run
-from oil import DEFAULT_MODE
-from states import ARRIVAL, HALTED, IDLE, Routine, place_of
-from texts import add_texts, application, place_text
-
-
-def told(app, before, step, words, files):
-    """What an event did: the statement with its line, or what came of a request."""
-    if words is None:
-        return 'the start'
-    if words[0] != 'run':
-        kept = 'is requested already, and this is lost' if step.state == before else 'is requested'
-        return '%s %s' % (words[1], kept)
-    if step.shown == ARRIVAL:
-        return 'the routine of %s begins' % source_of(app, step.state).name
-    if before.processor in (IDLE, HALTED):
-        return 'nothing: the processor is %s' % before.processor
-    block = app.blocks[place_of(before)[0]]
-    return place_text(block, files.code) + (' choice %s' % words[1] if block.word == 'choice' else '')
-
-
-def source_of(app, state):
-    return app.sources[state.processor.source] if isinstance(state.processor, Routine) else None
+from lib import covered, margin
+from lib.given import Parser, Wrong, contents, run
+from lib.model_trace import events_of, line, play
+from lib.oil import DEFAULT_MODE
+from lib.printed import most_asked, printed
+from lib.reasons import told
+from lib.texts import add_texts, application
 
 
 def annotated(app, files):
@@ -51,11 +33,11 @@ def annotated(app, files):
     name = files.events[0]
     given = contents(files.trace).splitlines() if files.trace else None
     before, lines = None, []
-    for number, (step, words, _) in enumerate(model.play(app, files.mode, model.events_of(contents(name), name), name)):
-        text = model.line(app, number, step)
+    for number, (step, words, _) in enumerate(play(app, files.mode, events_of(contents(name), name), name)):
+        text = line(app, number, step)
         if given is not None and number < len(given) and given[number] != text:
             raise Wrong('%s:%d: the trace is not that of these texts: %s is due' % (files.trace, number + 1, text))
-        lines.append((text, told(app, before, step, words, files)))
+        lines.append((text, told(app, before, step, words, files.code)))
         before = step.state
     if given is not None and len(given) != len(lines):
         raise Wrong('%s: the trace has %d lines, and %d are due' % (files.trace, len(given), len(lines)))
@@ -73,7 +55,7 @@ def reached(app, files):
     found = covered.Reached(app)
     for name in files.events:
         before = None
-        for step, words, _ in model.play(app, files.mode, model.events_of(contents(name), name), name):
+        for step, words, _ in play(app, files.mode, events_of(contents(name), name), name):
             if words is not None and words[0] == 'run':
                 found.take(before, step, words[1])
             before = step.state
@@ -96,12 +78,23 @@ def print_coverage(rows, least):
 def print_margin(app, files):
     """Prints the task code with its margin, as text or as a page."""
     texts = [contents(name) if name else None for name in (files.show, files.info, files.report)]
-    facts = margin.facts_of_texts(*texts, names=[files.show]) if any(texts) else margin.facts_of_model(app)
+    facts = margin.facts_of_texts(*texts, names=[files.show]) if any(texts) else facts_without_texts(app, files)
     code, notes = contents(files.code).splitlines(), margin.notes_of(app, facts)
     if files.html:
         sys.stdout.write(margin.page(code, notes, os.path.basename(files.code)))
     else:
         sys.stdout.write(''.join(line + '\n' for line in margin.lines_of(code, notes)))
+
+
+def facts_without_texts(app, files):
+    """The facts of the model, or of a built osekfit where that is named, or the model is too slow and it is found."""
+    found = None if files.program else margin.facts_of_model(app, most_asked())
+    if found is None:
+        said = printed(files.program, files.oil, files.code)
+        if said is None:
+            raise Wrong('the table is too large for the model: --program names an osekfit, or --show, --info and --report take what it printed')
+        found = margin.facts_of_texts(said.show, said.info, said.report, names=[said.program])
+    return found
 
 
 def arguments():
@@ -114,6 +107,7 @@ def arguments():
     parser.add_argument('--show', metavar='FILE', help='the text of `osekfit show`: for the margin, or for outcomes and edges')
     parser.add_argument('--info', metavar='FILE', help='the text of `osekfit info`, for known statuses')
     parser.add_argument('--report', metavar='FILE', help='the text of `osekfit report`, for `dead` and `free`')
+    parser.add_argument('--program', metavar='PROGRAM', help='a built osekfit, which is asked in place of the model')
     parser.add_argument('--html', action='store_true', help='the task code as a page')
     parser.add_argument('--least', type=int, default=0, metavar='N', help='the percentage of each row that has to be reached')
     return parser.parse_args()

@@ -15,8 +15,8 @@ import re
 import sys
 from collections import namedtuple
 
-from given import Parser, Wrong, contents, run
-from texts import add_texts, application
+from lib.given import Parser, Wrong, contents, run
+from lib.texts import add_texts, application
 
 Sample = namedtuple('Sample', 'time text line')
 """When the processor came somewhere, where, as the log has it, and the line of the log."""
@@ -28,11 +28,13 @@ BLOCK = re.compile(r'b?(\d+)')
 
 
 def csv_samples(text, block, clock, name):
-    """The samples of a CSV."""
-    rows = csv.DictReader(io.StringIO(text, newline=''))
-    for column in (block, clock):
-        if column not in (rows.fieldnames or []):
-            raise Wrong('%s:1: no column %s' % (name, column))
+    """The samples of a CSV, whose columns are parted by commas, semicolons or tabs."""
+    head = text.partition('\n')[0]
+    rows = csv.DictReader(io.StringIO(text, newline=''), delimiter=max(',;\t', key=head.count))
+    columns = rows.fieldnames or []
+    for column, word in ((block, '--block'), (clock, '--time')):
+        if column not in columns:
+            raise Wrong('%s:1: no column %s; there are: %s (%s NAME says which)' % (name, column, ', '.join(columns) or 'none', word))
     for row in rows:
         if (row[block] or '').strip():
             yield Sample((row[clock] or '').strip(), row[block].strip(), rows.line_num)
@@ -40,9 +42,10 @@ def csv_samples(text, block, clock, name):
 
 def vcd_samples(text, block, name):
     """The samples of a value change dump: the changes of one vector."""
-    mark = next((line.split()[3] for line in text.splitlines() if line.startswith('$var') and line.split()[4:5] == [block]), None)
+    marks = {words[4]: words[3] for words in (line.split() for line in text.splitlines() if line.startswith('$var')) if len(words) > 4}
+    mark = marks.get(block)
     if mark is None:
-        raise Wrong('%s: no vector %s' % (name, block))
+        raise Wrong('%s: no vector %s; there are: %s (--block NAME says which)' % (name, block, ', '.join(marks) or 'none'))
     time = '0'
     for number, line in enumerate(text.splitlines(), 1):
         words = line.split()

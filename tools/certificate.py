@@ -11,22 +11,19 @@ rule and its offset. Whether the table certifies the image is what `osekfit chec
 """
 import sys
 
-import certificate_chart
-from given import Parser, Wrong, contents, data, run
-from image_reader import read_image
-from points import block_of, point_shown, points_of, shown_point
-from table_bytes import RULES, Fault, read_table
-from table_words import Wording
-from texts import source_line
+from lib import certificate_chart
+from lib.given import Parser, Wrong, contents, data, run
+from lib.image_reader import read_image
+from lib.points import block_of, point_shown, points_of, shown_point
+from lib.table_bytes import table_told
+from lib.table_words import Wording
+from lib.texts import source_line
 
 
 def certificate(image_data, table_data, names=('the image', 'the table')):
     """The application of an image, and the table that is beside it; the names are the files', for what is told."""
     app = read_image(image_data, names[0]).app
-    try:
-        return app, read_table(app, table_data)
-    except Fault as fault:
-        raise Wrong('%s:%s: %s' % (names[1], fault, RULES[fault.rule])) from None
+    return app, table_told(app, table_data, names[1])
 
 
 def lines_of(app, table, points, only=None, code=None):

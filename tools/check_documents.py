@@ -1,29 +1,27 @@
 #!/usr/bin/env python3
-"""Runs the commands that README and GUIDE show, in a copy of the repository, and compares what they print with what stands there.
+"""Runs the commands that README and the pages of docs show, in a copy of the repository, and compares what they print with what stands there.
 
 A block of commands begins with ```console. Its lines behind `$ ` are typed in a shell, all of a block in one, from the repository's root;
 what stands below a command is what it has to print, and a command with nothing below may print anything. Each has to end with status 0,
-or, where it prints warnings, with 1; and no file that the repository keeps may change. Besides, each link between documents has to lead
-somewhere; with --links alone that is looked at, and no program is needed.
+or, where it prints warnings, with 1; and no file that the repository keeps may change. Besides, each link between pages has to lead
+somewhere, no line is too long, and no page but CHANGES names an older version; with --links these alone are looked at, and no program is
+needed.
 
     tools/check_documents.py crates/osekfit/out/osekfit
 """
 import filecmp
 import os
-import re
 import shutil
 import subprocess
 import sys
 import tempfile
 from collections import namedtuple
 
-from given import Parser, Wrong, contents, run
+from lib import pages
+from lib.crates import ROOT
+from lib.given import Parser, Wrong, contents, run
 
-ROOT = os.path.dirname(os.path.dirname(os.path.abspath(__file__)))
-
-DOCUMENTS = ['README.md', os.path.join('docs', 'GUIDE.md')]
-
-COPIED = ['README.md', 'docs', 'examples', 'tools', 'bench']
+COPIED = ['README.md', 'VERSION', 'docs', 'examples', 'tools', 'bench']
 
 Command = namedtuple('Command', 'line text due')
 """A command, where it stands, and the lines that it has to print."""
@@ -79,27 +77,6 @@ def faults_of(document, folder, program):
     return found, count
 
 
-LINK = re.compile(r'\]\(([^)\s#]*)(?:#([^)\s]+))?\)')
-
-
-def anchors_of(text):
-    """The anchors of a document's headings, as they are made of their words."""
-    headings = re.findall(r'^#+ (.*)$', re.sub(r'^```.*?^```', '', text, flags=re.MULTILINE | re.DOTALL), re.MULTILINE)
-    return {re.sub(r'[^\w\- ]', '', heading.lower()).replace(' ', '-') for heading in headings}
-
-
-def broken_links(root):
-    """The links of all documents that lead nowhere."""
-    names = [name for name in os.listdir(root) if name.endswith('.md')]
-    names += [os.path.join('docs', name) for name in os.listdir(os.path.join(root, 'docs')) if name.endswith('.md')]
-    for name in sorted(names):
-        for target, anchor in LINK.findall(contents(os.path.join(root, name))):
-            if '://' not in target:
-                file = os.path.normpath(os.path.join(root, os.path.dirname(name), target)) if target else os.path.join(root, name)
-                if not os.path.exists(file) or (anchor and anchor not in anchors_of(contents(file))):
-                    yield '%s: the link %s leads nowhere' % (name, target + ('#' + anchor if anchor else ''))
-
-
 def changed(folder):
     """The files of the copy that aren't as the repository has them."""
     found = []
@@ -116,7 +93,7 @@ def changed(folder):
 def arguments():
     parser = Parser(__doc__)
     parser.add_argument('program', nargs='?', metavar='PROGRAM', help='the built osekfit')
-    parser.add_argument('--links', action='store_true', help='looks at links alone')
+    parser.add_argument('--links', action='store_true', help='looks at links and lines alone')
     return parser.parse_args()
 
 
@@ -132,7 +109,7 @@ def run_all(program):
         for name in COPIED:
             source = os.path.join(ROOT, name)
             (shutil.copytree if os.path.isdir(source) else shutil.copy)(source, os.path.join(clone, name))
-        for document in DOCUMENTS:
+        for document in (page for page in pages.pages(clone) if not page.startswith('tools')):
             found, commands = faults_of(document, clone, at)
             faults, count = faults + found, count + commands
         faults += ['%s was changed' % name for name in changed(clone)]
@@ -141,7 +118,7 @@ def run_all(program):
 
 def main():
     words = arguments()
-    faults, count = list(broken_links(ROOT)), 0
+    faults, count = [*pages.broken_links(ROOT), *pages.overlong_lines(ROOT), *pages.older_versions(ROOT)], 0
     if not words.links:
         program = shutil.which(words.program or '')
         if program is None:

@@ -14,24 +14,17 @@ import os
 import random
 import shutil
 import subprocess
-import sys
 import tempfile
 
-import certified
-import findings
-import image
-import least_table
-import model
-import opened
-import records
-import table_bytes
-from application import application_of
-from certificate_changes import Changes
-from given import Parser, Wrong, data, run
-from image_reader import read_image
-from oil import HOOKS
-from points import points_of, shown_point
-from task_code import CLOSERS, OPENERS
+from lib import certified, findings, image, least_table, opened, records, table_bytes
+from lib.application import application_of
+from lib.certificate_changes import Changes
+from lib.given import Parser, Wrong, data, run
+from lib.image_reader import read_image
+from lib.model_trace import events_of, line, play
+from lib.oil import HOOKS
+from lib.points import points_of, shown_point
+from lib.task_code import CLOSERS, OPENERS
 
 FOR_TASKS = ['ActivateTask(%(task)s)', 'ActivateTask(%(task)s)', 'ChainTask(%(task)s)', 'TerminateTask()', 'Schedule()', 'GetResource(%(resource)s)',
              'GetResource(%(resource)s)', 'ReleaseResource(%(resource)s)', 'ReleaseResource(%(resource)s)', 'WaitEvent(%(mask)s)', 'WaitEvent(%(mask)s)']
@@ -150,7 +143,7 @@ def differences(program, folder, events, chance):
     if refusal or data(os.path.join(folder, 'a.image')) != image.image(app, analysis.shown, analysis.noted):
         found.append('build')
     for mode in app.modes:
-        due = ''.join(model.line(app, n, step) + '\n' for n, (step, _, _) in enumerate(model.play(app, mode, events)))
+        due = ''.join(line(app, n, step) + '\n' for n, (step, _, _) in enumerate(play(app, mode, events)))
         found += ['trace %s' % mode] if answer(program, ['trace', 'a.oil', 'a.code', mode, 'a.events'], folder) != due else []
         found += ['replay %s' % mode] if answer(program, ['replay', 'a.image', mode, 'a.events'], folder) != due else []
     found += ['show'] if answer(program, ['show', 'a.oil', 'a.code'], folder) != least_table.show(app, analysis) else []
@@ -238,7 +231,7 @@ def compare(program, seed, folder):
     for name, text in texts.items():
         with open(os.path.join(folder, name), 'w', encoding='ascii') as file:
             file.write(text)
-    return differences(program, folder, model.events_of(texts['a.events']), maker.random)
+    return differences(program, folder, events_of(texts['a.events']), maker.random)
 
 
 def arguments():

@@ -6,7 +6,7 @@ A line of the script is an event, or one of these; blank lines and those that be
     run 0 * 5               so many of an event
     run ?                   a choice that is drawn; `seed 7` begins the draws anew (1 at first)
     tick C every 20         from here on, a tick behind each 20 runs; `every 10..30` draws how many; `tick C never` ends it
-    until idle              runs until the processor is idle; or `until T1`, `until @I`, `until %C`, `until T1=W`, `until halted`
+    until idle              runs until the processor is idle; or `until T1`, `until @I`, `until %C`, `until T1=W`, `until halted`, `until b7`
     until idle by ? most 50 by which choices (0 at first), and after how many runs to give up (1000)
     repeat 3                what stands from here to `end`, so often
 
@@ -18,14 +18,19 @@ text that comes out has plain events alone, and the same script gives the same t
 import random
 import sys
 
-import model
-from given import Parser, Wrong, contents, run
-from kernel import Kernel
-from oil import DEFAULT_MODE
-from texts import application
+from lib.given import Parser, Wrong, contents, run
+from lib.kernel import Kernel
+from lib.model_trace import mode_number, stepped, who
+from lib.oil import DEFAULT_MODE
+from lib.states import place_of
+from lib.texts import application, place_text
+from lib.wanted import has, knows
 
 MOST = 1000
 """After how many runs `until` gives up, where the script doesn't say."""
+
+MOST_SAID = 8
+"""How many of the last statements are told where `until` gives up."""
 
 MOST_BYTES = 16 << 20
 """The largest event text that osekfit reads."""
@@ -34,28 +39,30 @@ MOST_BYTES = 16 << 20
 class Player:
     """The application at work, as far as `until` has to know."""
 
-    def __init__(self, app, mode):
-        self.app, self.kernel = app, Kernel(app)
-        self.state = self.kernel.start(model.mode_number(app, mode)).state
+    def __init__(self, app, mode, code='the task code'):
+        self.app, self.kernel, self.code = app, Kernel(app), code
+        self.state = self.kernel.start(mode_number(app, mode)).state
+        self.passed = {}
 
     def step(self, words):
+        """Makes a step, and notes which block it leaves."""
+        place = place_of(self.state)
+        if place and words[0] == 'run':
+            self.passed.pop(place[0], None)
+            self.passed[place[0]] = None
         try:
-            self.state = model.stepped(self.kernel, self.state, words).state
+            self.state = stepped(self.kernel, self.state, words).state
         except KeyError:
             raise Wrong('nothing is called %s' % words[1]) from None
 
-    def has(self, wanted):
-        """Whether the state is one that `until` waits for."""
-        if '=' in wanted:
-            name, _, letter = wanted.partition('=')
-            return model.letter(self.state, self.app.task_number[name]) == letter
-        return model.who(self.app, self.state) == {'idle': '-', 'halted': '#'}.get(wanted, wanted)
-
-    def knows(self, wanted):
-        name, sign, letter = wanted.partition('=')
-        names = set(self.app.task_number)
-        return (name in names and letter in 'SYRW') if sign else \
-            wanted in names | {'idle', 'halted'} | {s.mark + s.name for s in self.app.sources}
+    def where(self):
+        """Where the processor is, and by which statements it came here."""
+        place = place_of(self.state)
+        if place is None:
+            return 'the processor is %s' % self.state.processor
+        here = '%s has the processor at %s' % (who(self.app, self.state), place_text(self.app.blocks[place[0]], self.code))
+        lines = [self.app.blocks[block].line for block in list(self.passed)[-MOST_SAID:]]
+        return here + (', behind lines ' + ', '.join(str(line) for line in dict.fromkeys(lines) if line) if lines else '')
 
 
 class Writer:
@@ -96,14 +103,14 @@ class Writer:
     def until(self, wanted, choice, most):
         if self.player is None:
             raise Wrong('until needs --oil and --code')
-        if not self.player.knows(wanted):
+        if not knows(self.player.app, wanted):
             raise Wrong('nothing is called %s' % wanted)
         for _ in range(most):
-            if self.player.has(wanted):
+            if has(self.player.app, self.player.state, wanted):
                 return
             self.event(['run', choice])
-        if not self.player.has(wanted):
-            raise Wrong('%s did not come within %d runs' % (wanted, most))
+        if not has(self.player.app, self.player.state, wanted):
+            raise Wrong('%s did not come within %d runs: %s' % (wanted, most, self.player.where()))
 
 
 def number(word, least=1):
@@ -200,7 +207,7 @@ def main():
         raise Wrong('--oil and --code go together')
     player = None
     if words.oil:
-        player = Player(application(words), words.mode)
+        player = Player(application(words), words.mode, words.code)
     sys.stdout.write(event_text(contents(words.script), words.script or 'the script', player))
 
 

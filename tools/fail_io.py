@@ -12,10 +12,9 @@ signal at first: both end as without.
 """
 import re
 import shutil
-import sys
 import tempfile
 
-import given
+from lib import given
 import refuse_memory
 
 LIBRARY = r"""

@@ -1,13 +1,16 @@
 #!/usr/bin/env python3
-"""Prints the house in numbers: crates, lines of code, of definitions and of proofs, files, must-fail edits.
+"""Prints the house in numbers: crates, lines of code, of definitions and of proofs, files, functions, edits that the gate tries and edits that are
+tried when a contract changes, and the megabytes that the last check kept for the next one.
 
-With --gate it runs the gate and adds the minutes of a processor by crate: of its proofs, of its tests and what is run, and of its edits.
-Processes are looked at four times a second, so their last moment isn't seen by crate. The last lines have the minutes of a processor of
-all processes of the run, as the system counts them, whatever else the machine does, and those by the clock. The gate's output goes to
-the file that --log names.
+With --gate it runs the gate and adds the minutes of a processor by crate: of its proofs, of its tests and what is run, of the seed of its edits,
+and of its edits. The seed is the first check of a crate with several edits, which proves the whole crate from nothing; the other edits stand on
+what it kept. Processes are looked at four times a second, so their last moment isn't seen by crate. The last lines have the minutes of a
+processor of all processes of the run, as the system counts them, whatever else the machine does, and those by the clock. The gate's output goes
+to the file that --log names.
 
     tools/house.py
     tools/house.py --crates                      a line for each crate
+    tools/house.py --lemmas                      lemmas that nothing cites, and statements that stand twice
     tools/house.py --gate --log gate.log
 """
 import os
@@ -17,19 +20,24 @@ import sys
 import time
 from collections import Counter, namedtuple
 
-from given import Parser, Wrong, run
-
-ROOT = os.path.dirname(os.path.dirname(os.path.abspath(__file__)))
+from lib.contracts import bodies_of
+from lib.crates import KEPT, ROOT, made_by
+from lib.given import Parser, Wrong, contents, run
+from lib.lemmas import texts_below
 
 CRATES = os.path.join(ROOT, 'crates')
 
-Sizes = namedtuple('Sizes', 'code definitions proofs files edits')
+Sizes = namedtuple('Sizes', 'code definitions proofs files functions edits apart kept')
+"""The edits that the gate tries, and those that are tried apart; what the last check kept, in megabytes."""
 
 Stat = namedtuple('Stat', 'parent begun seconds')
 
 PARTS = {'src': 'code', 'specs': 'definitions', 'proofs': 'proofs'}
 
-KINDS = ('proofs', 'tests', 'edits')
+KINDS = ('proofs', 'tests', 'seeds', 'edits')
+
+Work = namedtuple('Work', 'crate kind kept', defaults=(None,))
+"""What a process of the gate works on; of a check of an edit the folder of what those before it kept."""
 
 TICKS = os.sysconf('SC_CLK_TCK')
 
@@ -47,20 +55,22 @@ def lines_of(file):
 
 
 def sizes_of(crate):
-    """The sizes of a crate: lines by part, files of all parts, edits."""
-    lines, files = Counter(), 0
+    """The sizes of a crate: lines by part, files and functions of all parts, edits, what is kept."""
+    lines, folder = Counter(), os.path.join(CRATES, crate)
+    files = {part: files_of(os.path.join(folder, part), ('.rt', '.antt')) for part in PARTS}
     for part, name in PARTS.items():
-        for file in files_of(os.path.join(CRATES, crate, part), ('.rt', '.antt')):
-            lines[name] += lines_of(file)
-            files += 1
-    return Sizes(lines['code'], lines['definitions'], lines['proofs'], files, len(files_of(os.path.join(CRATES, crate, 'must-fail'), '.edit')))
+        lines[name] = sum(map(lines_of, files[part]))
+    functions = sum(bodies_of(contents(file)) for file in files['src'])
+    edits, apart = (len(files_of(os.path.join(folder, place), '.edit')) for place in ('must-fail', 'edits'))
+    kept = sum(map(os.path.getsize, files_of(made_by(ROOT, crate, KEPT), '')))
+    return Sizes(lines['code'], lines['definitions'], lines['proofs'], sum(map(len, files.values())), functions, edits, apart, round(kept / 1e6))
 
 
 class Gate:
     """A run of the gate, and the seconds of a processor that its processes took so far."""
 
     def __init__(self, log):
-        self.seconds, self.begin, self.before = {}, time.monotonic(), seconds_of_ended()
+        self.seconds, self.seeds, self.begin, self.before = {}, {}, time.monotonic(), seconds_of_ended()
         self.process = subprocess.Popen([os.path.join(ROOT, '.ci', 'run')], cwd=ROOT, stdin=subprocess.DEVNULL, stdout=log, stderr=log)
 
     def watch(self):
@@ -85,10 +95,14 @@ class Gate:
             work = pid in stats and work_of(pid)
             if work:
                 key = pid, stats[pid].begun
-                known = self.seconds.get(key, work + (0,))
+                known = self.seconds.get(key, (work.crate, self.kind(work, key), 0))
                 self.seconds[key] = known[:2] + (max(known[2], seconds_with_all_below(pid, stats, children)),)
             else:
                 left += children.get(pid, [])
+
+    def kind(self, work, key):
+        """The kind of a process: the first one that keeps its work in a folder of edits is their seed."""
+        return 'seeds' if work.kept and self.seeds.setdefault(work.kept, key) == key else work.kind
 
 
 def seconds_of_ended():
@@ -126,12 +140,14 @@ def work_told(words, folder):
     """What the words of a process and its folder tell: a check of a crate, of its tests or of an edit, a link, or a run of what was built."""
     run_ones = [os.path.basename(word) for word in words if '/rt-run-' in word]
     if '--crate-name' in words[:-1]:
-        kind = 'edits' if '/rt-edit' in folder else 'tests' if '--test' in words else 'proofs'
-        return words[words.index('--crate-name') + 1], kind
+        crate = words[words.index('--crate-name') + 1]
+        if '/rt-edit' in folder:
+            return Work(crate, 'edits', words[words.index('--incremental') + 1] if '--incremental' in words[:-1] else None)
+        return Work(crate, 'tests' if '--test' in words else 'proofs')
     if run_ones:
-        return run_ones[0].partition('_tests')[0], 'tests'
+        return Work(run_ones[0].partition('_tests')[0], 'tests')
     if os.path.basename(os.path.dirname(folder)) == 'crates':
-        return os.path.basename(folder), 'tests' if any('_tests' in word for word in words) else 'proofs'
+        return Work(os.path.basename(folder), 'tests' if any('_tests' in word for word in words) else 'proofs')
     return None
 
 
@@ -162,9 +178,23 @@ def row(name, sizes, minutes):
     return [name] + [format(size, ',') for size in sizes] + ([] if minutes is None else ['%.1f' % minutes[kind] for kind in KINDS])
 
 
+def print_lemmas():
+    """Prints the lemmas that nothing cites, and the statements that stand more than once."""
+    texts = texts_below(CRATES)
+    uncited, doubled = texts.uncited(), texts.doubled()
+    for lemma in uncited:
+        sys.stdout.write('crates/%s:%d: %s is cited nowhere\n' % (lemma.path, lemma.line, lemma.name))
+    for places in doubled.values():
+        first, *others = places
+        told = ', '.join('%s in crates/%s:%d' % (one.name, one.path, one.line) for one in others)
+        sys.stdout.write('crates/%s:%d: %s says what %s\n' % (first.path, first.line, first.name, told))
+    sys.stdout.write('%d of %d statements of proofs are cited nowhere, %d stand more than once\n' % (len(uncited), len(list(texts.proved())), len(doubled)))
+
+
 def arguments():
     parser = Parser(__doc__)
     parser.add_argument('--crates', action='store_true', help='a line for each crate')
+    parser.add_argument('--lemmas', action='store_true', help='what nothing cites, and what is stated twice')
     parser.add_argument('--gate', action='store_true', help='runs the gate and measures it')
     parser.add_argument('--log', metavar='FILE', help='where the output of the gate goes')
     return parser.parse_args()
@@ -172,6 +202,9 @@ def arguments():
 
 def main():
     words = arguments()
+    if words.lemmas:
+        print_lemmas()
+        return 0
     sizes = {name: sizes_of(name) for name in sorted(os.listdir(CRATES)) if os.path.isdir(os.path.join(CRATES, name, 'src'))}
     if not words.gate:
         printed(table(sizes, None, words.crates))

@@ -17,12 +17,12 @@ import tempfile
 HERE = os.path.dirname(os.path.abspath(__file__))
 sys.path.insert(0, os.path.join(os.path.dirname(HERE), 'bench'))
 
-import given
 import run as bench
-from image import name, number
-from image_reader import read_image
-from points import block_of, executing_at, points_of
-from table_bytes import IN, LIVE, MOST, OUT, SUSPENDED, magic, value_bytes
+from lib import given
+from lib.image import name, number
+from lib.image_reader import read_image
+from lib.points import block_of, executing_at, points_of
+from lib.table_bytes import IN, LIVE, MOST, OUT, SUSPENDED, magic, value_bytes
 
 SECONDS, MEGABYTES = 2.0, 1024.0
 STOPPED_AFTER = 60

@@ -18,8 +18,8 @@ import tempfile
 HERE = os.path.dirname(os.path.abspath(__file__))
 sys.path.insert(0, os.path.join(os.path.dirname(HERE), 'bench'))
 
-import given
 import run as bench
+from lib import given
 
 MOST = 1 << 20
 EVENT_SHARE = 16

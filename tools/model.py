@@ -1,7 +1,7 @@
 #!/usr/bin/env python3
 """A model of osekfit in Python, to compare the proved program with.
 
-It is written from the guide and the definitions, apart from the program, and in the plainest way: tables are found and judged by steps
+It is written from the pages of docs and the definitions, apart from the program, and in the plainest way: tables are found and judged by steps
 of all states that a table admits, one by one. So all but `trace` is for small applications alone (some five tasks). Texts and images are
 taken to be without fault. The files examples/*/*.show are its answers. `certify` stores an image with the least table, as a certificate of it,
 and `check` says whether a table certifies an image: `yes`, or the first fault of its bytes (status 11), or why not (status 12). `replay` prints an
@@ -24,100 +24,33 @@ image's trace, and `record` the points that it comes to (with status 8 where it 
 """
 import sys
 
-import opened
-from given import Parser, Wrong, contents, data, run
-from kernel import Kernel
-from rules import Refused
-from services import letter
-from states import HALTED, IDLE, OUT, STATUSES, SUSPENDED, Live, Routine
-from texts import application
+from lib import certified, findings, image, least_table, opened, records
+from lib.given import Parser, Wrong, contents, data, run
+from lib.image import known_word
+from lib.image_reader import read_image
+from lib.least_table import Analysis
+from lib.model_trace import events_of, line, play
+from lib.rules import Refused
+from lib.texts import application
+
+MOST = 500000
+"""How many states are asked at most where --most says nothing: some minutes."""
 
 REFUSED = 1
 """The status of texts that violate a rule."""
 
 
-def who(app, state):
-    """Who has the processor, as the trace says it."""
-    if state.processor in (IDLE, HALTED):
-        return '-' if state.processor == IDLE else '#'
-    if isinstance(state.processor, Routine):
-        source = app.sources[state.processor.source]
-        return source.mark + source.name
-    return app.tasks[state.processor.task].name
+def solved(app, most):
+    """The least table of an application, where that asks no more states than these."""
+    analysis = Analysis(app).solve(most)
+    if analysis is None:
+        raise Wrong('the table is too large for the model: it asks more than %d states (--most N asks more, and osekfit answers at once)' % most)
+    return analysis
 
 
-def shown_task(app, state, number):
-    task, activity = app.tasks[number], state.tasks[number]
-    further = '*%d' % activity.further if isinstance(activity, Live) and activity.further else ''
-    events = ':%x' % state.masks[number] if task.own and activity != SUSPENDED else ''
-    return '%s=%s%s%s%s' % (task.name, letter(state, number), further, events, shown_resources(app, app.occupied(number, activity)))
-
-
-def shown_resources(app, held):
-    return ''.join('+' + app.resources[r].name for r in held)
-
-
-def shown_routines(app, state):
-    """The routines that began and haven't ended, each with what it holds; that at the processor only where it holds something."""
-    top = state.processor.source if isinstance(state.processor, Routine) else None
-    for number, (source, routine) in enumerate(zip(app.sources, state.sources)):
-        if routine != OUT and (number != top or routine.held):
-            yield source.mark + source.name + shown_resources(app, routine.held)
-
-
-def line(app, number, step):
-    """A line of the trace: the state after a step, and what it noted."""
-    words = [str(number), who(app, step.state)] + [shown_task(app, step.state, t) for t in range(len(app.tasks))]
-    words += shown_routines(app, step.state)
-    words += ['!' + step.status] if step.status else []
-    words += ['^Error'] if 'Error' in step.hooks else []
-    words += ['=' + step.value] if step.value is not None else []
-    return ' '.join(words + ['^' + hook for hook in ('Startup', 'Shutdown', 'PostTask', 'PreTask') if hook in step.hooks])
-
-
-def events_of(text, name='the event text'):
-    """The events of a text, as lists of two words, each with its line."""
-    found = []
-    for number, text_line in enumerate(text.split('\n'), 1):
-        words = text_line.split()
-        if words and not words[0].startswith('#'):
-            if len(words) != 2 or words[0] not in ('run', 'irq', 'tick') or (words[0] == 'run' and words[1] not in ('0', '1')):
-                raise Wrong('%s:%d: no event: %s' % (name, number, ' '.join(words)))
-            found.append((words, number))
-    return found
-
-
-def stepped(kernel, state, words):
-    """The step that an event makes; a name of no source is a KeyError."""
-    if words[0] == 'run':
-        return kernel.run(state, words[1] == '1')
-    marked = ('@' if words[0] == 'irq' else '%') + words[1]
-    return kernel.request(state, {s.mark + s.name: k for k, s in enumerate(kernel.app.sources)}[marked])
-
-
-def mode_number(app, mode):
-    if mode not in app.modes:
-        raise Wrong('%s: no such mode' % mode)
-    return app.modes.index(mode)
-
-
-def play(app, mode, events, name='the event text', kernel=None):
-    """The start, and the step of each event, each with the event's words and line; by the kernel of the application, or by another."""
-    kernel = kernel or Kernel(app)
-    step = kernel.start(mode_number(app, mode))
-    yield step, None, 0
-    for words, number in events:
-        try:
-            step = stepped(kernel, step.state, words)
-        except KeyError:
-            raise Wrong('%s:%d: nothing is called %s' % (name, number, words[1])) from None
-        yield step, words, number
-
-
-def store(app, image_name, table_name=None):
+def store(app, analysis, image_name, table_name=None):
     """Stores the image of an application, and the table that certifies it where that has a name."""
-    import certified
-    stored = certified.certified(app)
+    stored = certified.certified(app, analysis)
     for name, found in zip((image_name, table_name), stored):
         if name is not None:
             with open(name, 'wb') as file:
@@ -126,7 +59,6 @@ def store(app, image_name, table_name=None):
 
 def check(image_name, table_name):
     """Says whether a table certifies an image; the status."""
-    import certified
     status, told = certified.told(data(image_name), data(table_name), image_name, table_name)
     (sys.stderr if status else sys.stdout).write(told + '\n')
     return status
@@ -134,18 +66,15 @@ def check(image_name, table_name):
 
 def play_image(verb, image_name, mode, events_name):
     """Prints the trace, or the record, of an image; the status."""
-    import records
-    from image_reader import read_image
     show = records.replay if verb == 'replay' else records.record
     lines, status = show(read_image(data(image_name), image_name), mode, events_of(contents(events_name), events_name), events_name)
     sys.stdout.write(''.join(text + '\n' for text in lines))
     return status
 
 
-def watch(app, name):
+def watch(app, analysis, name):
     """Says what the least table says of a text of points; the status."""
-    import records
-    status, told = records.watched(app, data(name).decode('latin-1'), name)
+    status, told = records.watched(app, data(name).decode('latin-1'), name, analysis)
     (sys.stderr if status == records.DAMAGED else sys.stdout).write(told + '\n')
     return status
 
@@ -169,16 +98,9 @@ def info(stored):
 
 def image_form(stored, block):
     """The form of a site in an image, as `show` has it."""
-    import image
     form = stored.forms[block]
     word = {image.NEVER: 'never', image.STAY: 'stay', image.GENERAL: 'general'}.get(form)
     return word or 'direct ' + ('-' if form[1] == image.NOBODY else stored.app.tasks[form[1]].name)
-
-
-def known_word(number):
-    """What is known of a site's status, by its byte."""
-    from image import ANY, NONE_NOTED
-    return {ANY: 'any', NONE_NOTED: 'none'}.get(number) or STATUSES[number]
 
 
 COMMANDS = {'trace': ['OIL', 'CODE', 'MODE', 'EVENTS'], 'show': ['OIL', 'CODE'], 'report': ['OIL', 'CODE'], 'build': ['OIL', 'CODE', 'IMAGE'],
@@ -189,6 +111,7 @@ COMMANDS = {'trace': ['OIL', 'CODE', 'MODE', 'EVENTS'], 'show': ['OIL', 'CODE'],
 def arguments():
     parser = Parser(__doc__)
     parser.add_argument('--later', default='', metavar='PARTS', help='parts of the language to open: ' + ', '.join(opened.LATER))
+    parser.add_argument('--most', type=int, default=MOST, metavar='N', help='how many states are asked at most for a table')
     verbs = parser.add_subparsers(dest='verb', metavar='|'.join(COMMANDS), required=True)
     for verb, words in COMMANDS.items():
         one = verbs.add_parser(verb)
@@ -208,7 +131,6 @@ def main():
     if words.verb in ('replay', 'record'):
         return play_image(words.verb, words.image, words.mode, words.events)
     if words.verb == 'info':
-        from image_reader import read_image
         sys.stdout.write(info(read_image(data(words.image), words.image)))
         return 0
     try:
@@ -221,16 +143,15 @@ def main():
 
 def done(words, app):
     """Does what the words say with the application of two texts; the status."""
-    if words.verb == 'watch':
-        return watch(app, words.record)
     if words.verb == 'trace':
         return trace(app, words.mode, words.events)
+    analysis = solved(app, words.most)
+    if words.verb == 'watch':
+        return watch(app, analysis, words.record)
     if words.verb in ('show', 'report'):
-        import findings
-        import least_table
-        sys.stdout.write((least_table.show if words.verb == 'show' else findings.report)(app))
+        sys.stdout.write((least_table.show if words.verb == 'show' else findings.report)(app, analysis))
         return 0
-    return store(app, words.image, words.table if words.verb == 'certify' else None)
+    return store(app, analysis, words.image, words.table if words.verb == 'certify' else None)
 
 
 if __name__ == '__main__':

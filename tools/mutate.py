@@ -16,12 +16,10 @@ import random
 import re
 import shutil
 import subprocess
-import sys
 import tempfile
 import time
 
-import given
-import opened
+from lib import given, opened
 
 HERE = os.path.dirname(os.path.abspath(__file__))
 EXAMPLES = os.path.join(os.path.dirname(HERE), 'examples')

@@ -1,11 +1,14 @@
 #!/usr/bin/env python3
-"""Proves and builds the libraries that crates stand on, side by side where they don't stand on each other, and a line a crate.
+"""Proves and builds crates with all that they stand on, side by side where they don't stand on each other, and a line a crate. A program comes last.
+
+A line says how much of the work is done, by what each crate takes on a quiet machine; where nothing ends for two minutes another one says the time
+of day and what is at work. It may be interrupted: what was proved is kept, and isn't proved again.
 
 A check locks the crates below it. So each one that goes on at a time has a copy of the sources of its own, in a folder below out/ that
 goes at the end, and is given the libraries that other copies built: `rt` takes a library that was built over the same sources. There are
 as many at a time as there are processors, and 4 GB of free memory for each. The crates from which the longest way leads up go first.
 
-    tools/prove.py                          all below osekfit
+    tools/prove.py                          osekfit and all below it
     tools/prove.py --jobs 2 osek_io         osek_io and all below it, two at a time
     tools/prove.py --plan                   says how many there are and how long they take from nothing, about
 """
@@ -18,63 +21,16 @@ import sys
 import time
 from collections import namedtuple
 
-from given import Parser, Wrong, contents, run
+from lib.crates import KEPT, LIBRARY, ROOT, Crates, copy_sources, jobs_here, link, made_by, stamp
+from lib.given import Parser, Wrong, contents, run
 
-ROOT = os.path.dirname(os.path.dirname(os.path.abspath(__file__)))
-
-MEMORY_EACH = 4 << 30
-
-SECONDS_EACH, SECONDS_A_LINE = 12, 0.11
-"""What a first check takes of a processor: so much, and more for each line of code. Measured, crate by crate, within twice or half of it."""
+SILENT = 120
+"""After so many seconds in which nothing ended it is said what is at work."""
 
 SHOWN = 20
 """How many lines of what rt said are shown where a crate isn't proved."""
 
-LIBRARY, KEPT = 'rlib', 'incremental'
-"""What a check leaves in a crate's out/: the library with a stamp of its sources, and the work for the next check."""
-
 Work = namedtuple('Work', 'crate process begun log')
-
-
-def made_by(copy, crate, part):
-    """Where a check in a copy leaves a part of what it makes."""
-    return os.path.join(copy, 'crates', crate, 'out', part)
-
-
-def stamp(library):
-    """The sum of the sources that a library was built over; None where it isn't there."""
-    path = os.path.join(library, 'stamp')
-    return contents(path) if os.path.exists(path) else None
-
-
-class Crates:
-    """The crates of a repository, each behind those that it stands on."""
-
-    def __init__(self, root):
-        self.root, self.below = root, {}
-        for line in contents(os.path.join(root, 'crates.txt')).splitlines():
-            name, colon, rest = line.partition(':')
-            if colon and not line.startswith('#'):
-                own = [dep for dep in rest.split() if dep in self.below]
-                self.below[name.split()[0]] = {deep for dep in own for deep in [dep, *self.below[dep]]}
-
-    def is_program(self, name):
-        return os.path.exists(os.path.join(self.root, 'crates', name, 'src', 'main.rt'))
-
-    def libraries(self, tops):
-        """The libraries among these crates and all below them, lowest first."""
-        for top in tops:
-            if top not in self.below:
-                raise Wrong('%s is no crate of crates.txt' % top)
-        wanted = {name for top in tops for name in [top, *self.below[top]]}
-        return [name for name in self.below if name in wanted and not self.is_program(name)]
-
-    def seconds(self, name):
-        """About how long a first check of the crate takes."""
-        lines = 0
-        for at, _, files in os.walk(os.path.join(self.root, 'crates', name, 'src')):
-            lines += sum(contents(os.path.join(at, file)).count('\n') for file in files)
-        return SECONDS_EACH + SECONDS_A_LINE * lines
 
 
 class Order:
@@ -112,6 +68,25 @@ class Order:
         return now
 
 
+class Progress:
+    """What is told meanwhile. The work is counted in the seconds that crates take on a quiet machine."""
+
+    def __init__(self, seconds):
+        self.seconds = seconds
+
+    def share(self, done):
+        percent = 100 * sum(self.seconds[name] for name in done) // max(1, sum(self.seconds.values()))
+        return '%d of %d, %d %% of the work' % (len(done), len(self.seconds), percent)
+
+    def ended(self, crate, took, done):
+        return '%s: proved (%d s), %s' % (crate, took, self.share(done))
+
+    def silent(self, clock, passed, running, done):
+        """What is said where nothing ends: the time of day, since when, and what is at work for how long; pairs of a crate and its seconds so far."""
+        works = ', '.join('%s (%d min, about %d on a quiet machine)' % (crate, took // 60, self.seconds[crate] // 60 + 1) for crate, took in running)
+        return '%s, after %d min: %s; at work: %s' % (clock, passed // 60, self.share(done), works)
+
+
 class Copies:
     """The repository, and copies of its sources beside it as they are needed."""
 
@@ -123,9 +98,7 @@ class Copies:
         """A copy in which nothing is being proved."""
         if not self.free:
             copy = os.path.join(self.room, str(len(self.all)))
-            ignored = shutil.ignore_patterns('out')
-            shutil.copytree(os.path.join(self.crates.root, 'crates'), os.path.join(copy, 'crates'), ignore=ignored)
-            shutil.copy(os.path.join(self.crates.root, 'crates.txt'), copy)
+            copy_sources(self.crates.root, copy)
             self.all.append(copy)
             self.free.append(copy)
         return self.free.pop()
@@ -140,8 +113,7 @@ class Copies:
         for name in names:
             there, here = made_by(self.built[name], name, LIBRARY), made_by(copy, name, LIBRARY)
             if self.built[name] != copy and stamp(here) != stamp(there):
-                shutil.rmtree(here, ignore_errors=True)
-                shutil.copytree(there, here, copy_function=os.link)
+                link(there, here)
 
     def bring_home(self, names):
         """Gives the repository what checks kept in copies, for its next check, and their libraries."""
@@ -167,6 +139,7 @@ class Prover:
         self.names, self.jobs = names, jobs
         self.order, self.copies = Order(crates, names), Copies(crates)
         self.left, self.done, self.running = list(names), set(), {}
+        self.progress, self.begun, self.told = Progress(self.order.seconds), time.monotonic(), time.monotonic()
 
     def all(self):
         try:
@@ -176,12 +149,14 @@ class Prover:
                 for copy, work in list(self.running.items()):
                     if work.process.poll() is not None:
                         self.end(copy, work)
+                self.say_what_is_at_work()
             self.gather()
         finally:
             for work in self.running.values():
                 work.process.terminate()
             for work in self.running.values():
                 work.process.wait()
+            self.copies.bring_home([name for name in self.done if not self.copies.crates.is_program(name)])
             self.copies.end()
 
     def begin(self):
@@ -192,46 +167,64 @@ class Prover:
                 return
             self.left.remove(crate)
             copy = self.copies.take()
-            self.running[copy] = self.library(crate, copy)
+            self.running[copy] = self.work(crate, copy)
 
-    def library(self, crate, copy):
-        """Has rt prove and build a library, over those below it that stand."""
+    def work(self, crate, copy):
+        """Has rt prove and build a crate, over those below it that stand; a program it also runs, without words."""
         os.makedirs(self.copies.room, exist_ok=True)
         self.copies.bring(self.order.below[crate], copy)
         log = os.path.join(self.copies.room, crate + '.log')
         with open(log, 'wb') as out:
-            process = subprocess.Popen(['rt', 'lib'], cwd=os.path.join(copy, 'crates', crate), stdin=subprocess.DEVNULL, stdout=out, stderr=out)
+            verb = 'run' if self.copies.crates.is_program(crate) else 'lib'
+            process = subprocess.Popen(['rt', verb], cwd=os.path.join(copy, 'crates', crate), stdin=subprocess.DEVNULL, stdout=out, stderr=out)
         return Work(crate, process, time.monotonic(), log)
 
     def end(self, copy, work):
         """Tells of a crate that is done, and stops where it isn't proved."""
         del self.running[copy]
-        if work.process.returncode != 0:
+        if not self.is_proved(work):
             sys.stderr.write(''.join(contents(work.log).splitlines(True)[-SHOWN:]))
             raise Wrong('%s was not proved; above is what rt said' % work.crate)
         self.copies.give(copy)
         self.copies.built[work.crate] = copy
         self.done.add(work.crate)
-        seconds = time.monotonic() - work.begun
-        sys.stdout.write('  %s: proved (%d s), %d of %d\n' % (work.crate, seconds, len(self.done), len(self.names)))
+        self.say(self.progress.ended(work.crate, time.monotonic() - work.begun, self.done))
+
+    def is_proved(self, work):
+        """A program that was proved has been run; its own status is that of a command without words."""
+        if self.copies.crates.is_program(work.crate):
+            return 'rt: running out/%s' % work.crate in contents(work.log)
+        return work.process.returncode == 0
+
+    def say(self, text):
+        self.told = time.monotonic()
+        sys.stdout.write('  %s\n' % text)
         sys.stdout.flush()
+
+    def say_what_is_at_work(self):
+        now = time.monotonic()
+        if self.running and now - self.told >= SILENT:
+            running = [(work.crate, now - work.begun) for work in self.running.values()]
+            self.say(self.progress.silent(time.strftime('%H:%M'), now - self.begun, running, self.done))
 
     def gather(self):
         """Has the repository itself take over the libraries that copies built."""
         if len(self.copies.all) == 1:
             return
-        self.copies.bring_home(self.names)
+        libraries = [name for name in self.names if not self.copies.crates.is_program(name)]
+        self.copies.bring_home(libraries)
         above = set().union(*(self.order.below[name] for name in self.names))
-        for crate in [name for name in self.names if name not in above]:
-            work = self.library(crate, self.copies.all[0])
+        for crate in [name for name in libraries if name not in above]:
+            work = self.work(crate, self.copies.all[0])
             if work.process.wait() != 0:
                 raise Wrong('%s was not taken over: %s' % (crate, contents(work.log)[-200:]))
 
 
-def jobs_here():
-    """How many crates can be proved at a time on this machine."""
-    memory = next(int(line.split()[1]) << 10 for line in contents('/proc/meminfo').splitlines() if line.startswith('MemAvailable:'))
-    return max(1, min(len(os.sched_getaffinity(0)), memory // MEMORY_EACH))
+def plan(count, jobs, seconds, load, processors):
+    """How many crates there are, and how long they take from nothing; longer by as much as others want of the processors."""
+    told = '%d crates, at most %d at a time; about %d minutes from nothing on a quiet machine' % (count, jobs, seconds / 60 + 1)
+    busy = (load + jobs) / processors
+    return told if busy < 1.5 else told + ', and %d beside what runs here now' % (seconds / 60 * busy + 1)
 
 
 def arguments():
@@ -245,10 +238,10 @@ def arguments():
 def main():
     words = arguments()
     crates, tops = Crates(ROOT), words.crates or ['osekfit']
-    names, jobs = crates.libraries(tops), max(1, words.jobs or jobs_here())
+    names = crates.libraries(tops) + [top for top in tops if crates.is_program(top)]
+    jobs = max(1, words.jobs or jobs_here())
     if words.plan:
-        minutes = Order(crates, names + [top for top in tops if crates.is_program(top)]).whole(jobs) / 60
-        sys.stdout.write('%d libraries, at most %d at a time; about %d minutes from nothing\n' % (len(names), jobs, minutes + 1))
+        sys.stdout.write(plan(len(names), jobs, Order(crates, names).whole(jobs), os.getloadavg()[0], len(os.sched_getaffinity(0))) + '\n')
         return
     if shutil.which('rt') is None:
         raise Wrong('rt, the command of the Rattle kit, is not on the PATH')

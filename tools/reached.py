@@ -14,9 +14,8 @@ import re
 import sys
 from collections import namedtuple
 
-from given import Parser, Wrong, contents, run
-
-ROOT = os.path.dirname(os.path.dirname(os.path.abspath(__file__)))
+from lib.crates import ROOT
+from lib.given import Parser, Wrong, contents, run
 
 CRATES = os.path.join(ROOT, 'crates')
 

@@ -16,10 +16,9 @@ import os
 import re
 import shutil
 import subprocess
-import sys
 import tempfile
 
-import given
+from lib import given
 
 HERE = os.path.dirname(os.path.abspath(__file__))
 TOP = os.path.dirname(HERE)

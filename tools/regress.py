@@ -22,10 +22,9 @@ import time
 from collections import namedtuple
 from xml.sax.saxutils import escape, quoteattr
 
-import opened
-import program
-from given import Parser, Wrong, contents, run
-from oil import DEFAULT_MODE
+from lib import opened, program
+from lib.given import Parser, Wrong, contents, run
+from lib.oil import DEFAULT_MODE
 
 Case = namedtuple('Case', 'application name seconds fault')
 """A case: what was run, and what is wrong with it, or None."""
@@ -80,6 +79,7 @@ class Tester:
         if expected and not os.path.exists(expected) and self.writes and 'status ' not in got[-60:]:
             with open(expected, 'w', encoding='utf-8', errors='surrogateescape', newline='') as file:
                 file.write(got)
+            sys.stdout.write('%s is written\n' % expected)
         if expected and not os.path.exists(expected):
             fault = '%s is missing' % expected
         else:

@@ -16,9 +16,9 @@ import re
 import sys
 from collections import namedtuple
 
-import graph
-import task_code
-from given import Parser, contents, run
+from lib import task_code
+from lib.given import Parser, contents, run
+from lib.show_reader import read_show
 
 Version = namedtuple('Version', 'sites edges counts findings')
 """A version of an application: forms by block, edges, the numbers of show's last line, and the lines of its report."""
@@ -37,7 +37,7 @@ def version_of(text, name):
     """The version that a text tells of."""
     lines = text.splitlines()
     found = [line for line in lines if FINDING.fullmatch(line)]
-    shown = graph.read_show('\n'.join(line for line in lines if not FINDING.fullmatch(line)), name)
+    shown = read_show('\n'.join(line for line in lines if not FINDING.fullmatch(line)), name)
     return Version({block: site.form for block, site in shown.sites.items()}, shown.edges, shown.counts, found)
 
 
@@ -87,11 +87,13 @@ def site_changes(old, new, blocks):
 
 
 def finding_changes(old, new, blocks):
-    """The findings that hold no more, and those that are new. One of a block that is no more isn't told."""
+    """The findings that hold no more, and those that are new. One of a block that is no more isn't told, and a resource that was free at a block is so
+    still where no run comes to it."""
     before = {line: moved_finding(line, blocks) for line in old}
     for line, now in before.items():
         if now is not None and now not in new:
-            yield Change('%s: no more' % now, {'lost'})
+            is_dead = now.startswith('free') and now.replace('free', 'dead') in new
+            yield Change('%s: %s' % (now, 'dead now' if is_dead else 'no more'), set() if is_dead else {'lost'})
     for line in new:
         if line not in before.values():
             yield Change('%s: new' % line, set())

@@ -3,41 +3,41 @@
 run that has it.
 
     tools/why.py a.oil a.code b12
+    tools/why.py --show a.show --certificate a.image a.table a.oil a.code b12        by what osekfit printed and stored
     tools/why.py --events DIR a.oil a.code b12        stores the runs as event texts for `osekfit replay`, as DIR/b12-1.events and so on
 
-What may be is told by the least table of the model in model.py, which is for small applications; where it is too large, runs alone are
-looked for. The table keeps no relation between two tasks. So it may have two outcomes where runs have one: this is said too, for certain where
-all states of the application were looked at.
+What may be is told by the least table of the model in model.py, which is for small applications. Where it is too large, a built osekfit is asked
+that --program names, or that is found: its certificate has the table. Without one runs alone are looked for. The table keeps no relation between
+two tasks. So it may have two outcomes where runs have one: this is said too, for certain where all states of the application were looked at.
 """
 import os
 import re
 
-import opened
-from certified import table_of
-from given import Parser, Wrong, run
-from least_table import MOST_ASKED, Analysis, form
-from model import events_of, line, play
-from points import block_of, shown_point
-from site_runs import Search
-from states import KEEP
-from table_bytes import HELD, OUT
-from table_words import Wording
-from texts import add_texts, application
+from lib import opened
+from lib.certified import table_of
+from lib.given import Parser, Wrong, contents, run
+from lib.least_table import MOST_ASKED, Analysis, form
+from lib.model_trace import events_of, line, play
+from lib.points import block_of, shown_point
+from lib.printed import certificate_table, most_asked, outcomes_of, printed
+from lib.site_runs import Search
+from lib.states import KEEP
+from lib.table_bytes import HELD, OUT
+from lib.table_words import Wording
+from lib.texts import add_texts, application
 
 
 class Site:
     """A call site of an application, and what its table says of it, where the table isn't too large."""
 
-    def __init__(self, app, block, most_asked=MOST_ASKED):
-        self.app, self.block = app, block
+    def __init__(self, app, block, table=None, admitted=None):
+        self.app, self.block, self.table, self.admitted = app, block, table, admitted
         self.owner = app.blocks[block].owner
-        self.analysis = Analysis(app).solve(most_asked)
-        self.admitted = self.analysis.shown[block] if self.analysis else None
 
     def heading(self, code_name):
         block = self.app.blocks[self.block]
         what = 'the end of %s' % self.owner.name if block.word == 'end' else '%s of %s' % (block.text, self.owner.name)
-        known = form(self.app, self.admitted) if self.analysis else 'its table is too large for the model'
+        known = 'its table is too large for the model' if self.admitted is None else form(self.app, self.admitted)
         return 'b%d, %s%s: %s' % (self.block, '%s:%d: ' % (code_name, block.line) if block.line else '', what, known)
 
     def said(self, outcome):
@@ -48,7 +48,7 @@ class Site:
 
     def table_lines(self):
         """What each task may be doing at the site's points, those of the highest priority first."""
-        table, wording = table_of(self.analysis), Wording(self.app)
+        table, wording = self.table, Wording(self.app)
         order = sorted(range(len(self.app.tasks)), key=lambda t: -self.app.tasks[t].priority)
         for point in sorted(p for p in table if block_of(p) == self.block):
             yield 'at %s' % shown_point(self.app, point)
@@ -73,6 +73,23 @@ class Site:
         for resource in (self.app.resources[r] for r in sorted({r for fields in values for r in fields[HELD:]} | internal)):
             if resource.ceiling:
                 yield 'who holds %s is just above priority %d' % (resource.name, resource.ceiling // 2)
+
+
+def site_of_model(app, block, most_asked=MOST_ASKED):
+    """A site by the least table of the model, without a table where that is too large."""
+    analysis = Analysis(app).solve(most_asked)
+    return Site(app, block, table_of(analysis), analysis.shown[block]) if analysis else Site(app, block)
+
+
+def site_of(app, block, words):
+    """A site by what osekfit printed and stored, where that is given; else by the model, or by a built osekfit where that is named, or the model is
+    too slow and it is found."""
+    if words.show or words.certificate:
+        admitted = outcomes_of(contents(words.show), app, block, words.show) if words.show else None
+        return Site(app, block, certificate_table(*words.certificate) if words.certificate else None, admitted)
+    found = Site(app, block) if words.program else site_of_model(app, block, most_asked())
+    said = printed(words.program, words.oil, words.code) if found.admitted is None else None
+    return Site(app, block, said.table, outcomes_of(said.show, app, block)) if said else found
 
 
 def searched(site, most):
@@ -118,7 +135,7 @@ def missing_lines(site, search):
 
 def lines_of(site, search, code_name):
     yield site.heading(code_name)
-    if site.analysis:
+    if site.table:
         yield from site.table_lines()
     for outcome in sorted(search.found, key=outcome_order):
         yield from run_lines(site, search, outcome)
@@ -152,6 +169,9 @@ def arguments():
     add_texts(parser)
     parser.add_argument('site', metavar='bN', help='the block of a call site, as `osekfit show` has it')
     parser.add_argument('--events', metavar='DIR', help='where the runs are stored')
+    parser.add_argument('--show', metavar='FILE', help='what `osekfit show` printed, in place of the model')
+    parser.add_argument('--certificate', nargs=2, metavar=('IMAGE', 'TABLE'), help='what `osekfit certify` stored, in place of the model')
+    parser.add_argument('--program', metavar='PROGRAM', help='a built osekfit, whose certificate is read in place of the model')
     parser.add_argument('--most', type=int, default=100000, metavar='N', help='how many states are looked at for runs')
     return parser.parse_args()
 
@@ -159,7 +179,7 @@ def arguments():
 def main():
     words = arguments()
     app = application(words)
-    site = Site(app, site_block(app, words.site))
+    site = site_of(app, site_block(app, words.site), words)
     search = searched(site, words.most)
     for text in lines_of(site, search, words.code):
         print(text)

@@ -1,0 +1,38 @@
+"""What lint.py finds in the form of SARIF 2.1.0, which servers that show findings beside the lines of a change read."""
+import json
+import os
+import re
+
+from lib.crates import ROOT
+from lib.given import contents
+
+SCHEMA = 'https://json.schemastore.org/sarif-2.1.0.json'
+
+ERROR = re.compile(r'(?P<file>.+):(?P<line>\d+): error: (?:(?P<rule>[A-Z]\d+): )?(?P<text>.*)')
+
+
+def found_errors(lines):
+    """The errors of lines that begin with them: of each the file, the line, the text with what is told below it, and the rule."""
+    found = []
+    for line in lines:
+        match = ERROR.fullmatch(line)
+        if match:
+            found.append((match['file'], int(match['line']), match['text'], match['rule'] or 'grammar'))
+        elif found:
+            file, number, text, rule = found[-1]
+            found[-1] = (file, number, '%s\n%s' % (text, line.strip()), rule)
+    return found
+
+
+def result(file, line, text, rule, level):
+    region = {'region': {'startLine': max(1, line)}}
+    place = {'artifactLocation': {'uri': file.replace(os.sep, '/')}, **region}
+    return {'ruleId': rule, 'level': level, 'message': {'text': text}, 'locations': [{'physicalLocation': place}]}
+
+
+def log(errors, warnings):
+    """The log of errors and warnings, each a file, a line, a text and a rule."""
+    results = [result(*one, 'error') for one in errors] + [result(*one, 'warning') for one in warnings]
+    driver = {'name': 'osekfit lint', 'version': contents(os.path.join(ROOT, 'VERSION')).strip(),
+              'rules': [{'id': rule} for rule in dict.fromkeys(one['ruleId'] for one in results)]}
+    return json.dumps({'$schema': SCHEMA, 'version': '2.1.0', 'runs': [{'tool': {'driver': driver}, 'results': results}]}, indent=1) + '\n'
