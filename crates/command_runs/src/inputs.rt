@@ -14,7 +14,7 @@ use table_codec::{TableFault, TableRule};
 use trace_text::{EventFault, FaultyLine, FaultyPoint, Feed, PointFault};
 
 /// How many bytes of a text of lines are read at once.
-const PIECE: usize = 4096;
+const PIECE: usize = 65_536;
 
 /// How many bytes an input has at most.
 fn limit_of(input: Input) -> u64

@@ -33,16 +33,17 @@ module _ (files : Files) (image table bytes : List ℕ) (i : Image) (holds : get
   of_table j _ e (bad_table b f x p) = absurd (cc e)
   of_table j _ e (is_table b t r x p d) = (t, of_judged j t r e d)
 
-  of_image : (r : Result (Unit {0}) Stop) → r ≡ Ok tt → ImageDue files image (ImageIsJudged files table) r → (t : PlainTable) × IsAgreed i t
-  of_image _ e (no_image x) = absurd (cc e)
-  of_image _ e (bad_image b f x p) = absurd (cc e)
-  of_image _ e (is_read b j r x p d) =
+  -- the table that the check holds the image against
+  pub agreed_table : (r : Result (Unit {0}) Stop) → r ≡ Ok tt → ImageDue files image (ImageIsJudged files table) r → (t : PlainTable) × IsAgreed i t
+  agreed_table _ e (no_image x) = absurd (cc e)
+  agreed_table _ e (bad_image b f x p) = absurd (cc e)
+  agreed_table _ e (is_read b j r x p d) =
       let same : j ≡ i = same_image files b bytes j i (same_found _ b bytes x holds) p spells in
       subst (λ (k : Image). (t : PlainTable) × IsAgreed k t) same (of_table j r e d)
 
 pub checked_is_kernel : WhatIsCheckedIsAKernelImage
 checked_is_kernel files image table bytes i due holds spells =
-    let (t, fits) = of_image files image table bytes i holds spells (Ok tt) refl due in
+    let (t, fits) = agreed_table files image table bytes i holds spells (Ok tt) refl due in
     record {
       is = refl;
       spelled = subst (λ (b : List ℕ). SpellImage b i) (sym spells.spelled) spells;

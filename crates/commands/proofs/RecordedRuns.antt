@@ -7,9 +7,9 @@ use Rattle.osek_standard.specs.declared.{app.App.{App}, point.Point.{Point}, sta
 use Rattle.osek_standard.specs.{Dispatch.{Stepped}, Kernel.{start, step, steps, run}, Points.{IsPoint, point_of}}
 use Rattle.image_model.specs.{declared.image.Image.{Image}, ImageTrace.{Run, run_of, and_then, after, image_steps, image_run, trap_text}}
 use Rattle.abstract_state.specs.{declared.table.PlainTable.{PlainTable}, Tables.{Sets, In, Inductive, sets_of}}
-use Rattle.dictated_forms.specs.Forms.{HasDictatedForms, KnowsAtMost}
+use Rattle.dictated_forms.specs.Forms.{Fits, HasDictatedForms, KnowsAtMost}
 use Rattle.abstract_state.proofs.AllowedLaws.{well_point}
-use Rattle.dictated_forms.proofs.ImageLaws.{dictated_statuses, same_step}
+use Rattle.dictated_forms.proofs.ImageLaws.{dictated_fit, dictated_statuses, fitting_step}
 use Rattle.trace_text.specs.RecordText.{RecordReading, read_record, record_text}
 use Rattle.trace_text.proofs.RecordLaws.{reads_back}
 use Rattle.flow_watch.specs.Records.{IsQuiet, record_of}
@@ -19,21 +19,23 @@ use Rattle.commands.specs.{Due.{WatchDue, is_watched}, Fitting.{HasLeastForms, I
 use Rattle.commands.specs.Laws.{WhatIsRecordedIsQuiet, WhatIsRecordedIsTheKernels}
 
 module _ (i : Image) (table : Sets) (inductive : Inductive i.app table) where
-  module _ (forms : HasDictatedForms table i) (known : KnowsAtMost table i) where
+  -- an image that fits the table does what the kernel does, step for step
+  module _ (fits : Fits table i) where
     same_steps : (s : State) (es : List Event) → In i.app table s → image_steps i s es ≡ run_of (steps i.app s es) false
     same_steps s [] h = refl
     same_steps s (e ∷ es) h =
-        ap (λ (o : Option Stepped). after o (λ t. image_steps i t es)) (same_step i table s e forms known h)
+        ap (λ (o : Option Stepped). after o (λ t. image_steps i t es)) (fitting_step i table fits s e h)
         ∙ ap (and_then (step i.app s e)) (same_steps (step i.app s e).state es (inductive.step s e h))
 
-    same_run : (mode : ModeNo) (es : List Event) → mode.0 < length i.app.modes → image_run i mode es ≡ run_of (run i.app mode es) false
+    pub same_run : (mode : ModeNo) (es : List Event) → mode.0 < length i.app.modes → image_run i mode es ≡ run_of (run i.app mode es) false
     unfolding image_run run
     same_run mode es there = ap (and_then (start i.app mode)) (same_steps (start i.app mode).state es (inductive.start mode there))
 
-    same_record : (mode : ModeNo) (es : List Event) → mode.0 < length i.app.modes → image_points i mode es ≡ record_text i.app (record_of i.app mode es)
-    unfolding image_points
-    same_record mode es there =
-        ap (λ (r : Run). record_text i.app (points_of r.steps) ++ trap_text r.trapped (length r.steps)) (same_run mode es there) ∙ append-nil (record_text i.app (record_of i.app mode es))
+  same_record : HasDictatedForms table i → KnowsAtMost table i → (mode : ModeNo) (es : List Event) → mode.0 < length i.app.modes → image_points i mode es ≡ record_text i.app (record_of i.app mode es)
+  unfolding image_points
+  same_record forms known mode es there =
+      ap (λ (r : Run). record_text i.app (points_of r.steps) ++ trap_text r.trapped (length r.steps)) (same_run (dictated_fit i table forms known) mode es there)
+      ∙ append-nil (record_text i.app (record_of i.app mode es))
 
   points_from : (s : State) (es : List Event) → In i.app table s → All (IsPoint i.app) (points_of (steps i.app s es))
   points_from s [] h = All-nil (IsPoint i.app)

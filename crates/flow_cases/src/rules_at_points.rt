@@ -2,16 +2,17 @@
 ghost use Rattle.std.specs.Prelude.{◌≡◌, ◌<◌, IfOk};
 ghost use Rattle.osek_standard.specs.Well.{Well};
 ghost use Rattle.abstract_state.specs.{Domains.{domains as domains_of_entry}, Regular.{IsRegular}};
-ghost use Rattle.flow_rules.specs.Rows.{IsProperRow};
+ghost use Rattle.point_exits.specs.Rows.{IsProperRow};
 
 use abstract_state::{Domain, PlainEntry, TableRow};
 use flow_model::{Decision, Rule};
-use flow_rules::{apply, row_of, rules};
+use flow_rules::{apply, rules};
 use front_end::{TextError, read_app, read_system};
 use generic_kernel::{Ready, start, step};
 use numbered_sets::{Pool, numbered};
 use osek_standard::{App, State};
 use osek_values::{Event, Memory, ModeNo, Steps, TaskNo};
+use point_exits::row_of;
 use std::alloc::Global;
 use std::marker::Brand;
 use std::sync::ledger::{Blank, Ledger};

@@ -11,9 +11,9 @@ use Rattle.flow_model.specs.{declared.case.Decision.{Decision}, Rules.{mark_by},
 use Rattle.flow_exits.specs.{declared.exit.Exit.{Exit}, Exits.{CoverInstructions, AreExact}}
 use Rattle.flow_exits.proofs.ExactExits.{some_step}
 use Rattle.numbered_sets.specs.Pools.{Values}
-use Rattle.flow_rules.specs.declared.group.{NumberEnd.{NumberEnd}, Ends.{Ends}, ExitGroup.{ExitGroup}}
-use Rattle.flow_rules.specs.declared.group.Ends.TheVariants as ends
-use Rattle.flow_rules.specs.Groups.{with_end, exit_at, exits_by}
+use Rattle.point_exits.specs.declared.group.{NumberEnd.{NumberEnd}, Ends.{Ends}, ExitGroup.{ExitGroup}}
+use Rattle.point_exits.specs.declared.group.Ends.TheVariants as ends
+use Rattle.point_exits.specs.Groups.{with_end, exit_at, exits_by}
 use Rattle.flow_check.specs.{declared.found.Findings.{Findings}, Found.{Seen, Nothing, Alone, IsSeen, AreJoined, outcome_seen, status_seen, AreJoinedFindings, IsTold}}
 use Rattle.flow_check.specs.Outcomes.{end_count, status_noted, Arises, IsOfExit, IsOfExits, AreOfRow, AreOfExits}
 use Rattle.flow_check.proofs.Joining.{same_decision, same_status, status_once, joined_nothing, same_seen, joined_seen, seen_already}

@@ -8,7 +8,7 @@ use Rattle.abstract_state.proofs.EqualityLaws.{written_entry}
 use Rattle.numbered_sets.specs.{declared.table.NumberedRow.{NumberedRow}, Pools.{Values, AreValues, IsLonger}, Views.{AreNumbersOf}}
 use Rattle.numbered_sets.specs.PlainTables.{plain_row, plain_rows, plain_table}
 use Rattle.numbered_sets.proofs.NumberingLaws.{longer_onward}
-use Rattle.flow_rules.specs.{declared.{group.ExitGroup.{ExitGroup}, levels.Levels.{Levels}}, Groups.{all_exits, AreKnownGroups}, Levels.{AreLevels}, Rows.{IsProperRow}}
+use Rattle.point_exits.specs.{declared.{group.ExitGroup.{ExitGroup}, levels.Levels.{Levels}}, Groups.{all_exits, AreKnownGroups}, Levels.{AreLevels}, Rows.{IsProperRow}}
 use Rattle.flow_check.specs.{declared.{found.Findings.{Findings}}, Rows.{number_of, AreRowsFrom, AreExitsOf}, Staying.{AreAllIn, IsSomeGroupOut}}
 use Rattle.flow_check.specs.declared.flow.Flow.TheVariants as flow
 use Rattle.flow_check.specs.{Outcomes.{AreFound}, Verdicts.{Leaves}, Flows.{StaysAt, IsFlow}}

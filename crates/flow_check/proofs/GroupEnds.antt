@@ -6,9 +6,9 @@ use Rattle.osek_standard.specs.declared.point.Point.{Point}
 use Rattle.osek_standard.proofs.Members.{contained_among, among_contained, among_map, map_among, among_flat_map, flat_map_among}
 use Rattle.flow_exits.specs.declared.exit.Exit.{Exit}
 use Rattle.numbered_sets.specs.{declared.table.NumberedRow.{NumberedRow}, Pools.{Values}, Views.{AreNumbersOf}}
-use Rattle.flow_rules.specs.{declared.group.{NumberEnd.{NumberEnd}, Ends.{Ends}, ExitGroup.{ExitGroup}}, Groups.{with_end, exit_at, exits_by, exits_of, all_exits, AreKnownEnds}}
-use Rattle.flow_rules.specs.declared.group.Ends.TheVariants as ends
-use Rattle.flow_rules.proofs.GrowingPools.{end_known}
+use Rattle.point_exits.specs.{declared.group.{NumberEnd.{NumberEnd}, Ends.{Ends}, ExitGroup.{ExitGroup}}, Groups.{with_end, exit_at, exits_by, exits_of, all_exits, AreKnownEnds}}
+use Rattle.point_exits.specs.declared.group.Ends.TheVariants as ends
+use Rattle.point_exits.proofs.GrowingPools.{end_known}
 use Rattle.flow_check.specs.Staying.{NumberedEnd, end_at, ends_by, IsIn, IsOut, AreIn, IsSomeOut, HasSetFor}
 
 -- an exit of the group, by its end

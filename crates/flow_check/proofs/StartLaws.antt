@@ -9,8 +9,8 @@ use Rattle.abstract_state.specs.declared.{value.PartValue.{PartValue}, table.{Pl
 use Rattle.abstract_state.specs.{Components.{abstract_of}, Tables.{In, set_at, is_member, sets_of}}
 use Rattle.numbered_sets.specs.{declared.{numbered_entry.NumberedEntry.{NumberedEntry}, table.NumberedRow.{NumberedRow}}, Pools.{Values, AreValues, IsLonger}}
 use Rattle.numbered_sets.specs.{Views.{plain_entry, AreNumbersOf}, PlainTables.{row_at, plain_table}}
-use Rattle.flow_rules.specs.{Rows.{IsRowIn}, Starts.{entry_of, IsStartRow}}
-use Rattle.flow_rules.proofs.StartEntry.{entry_only}
+use Rattle.point_exits.specs.{Rows.{IsRowIn}, Starts.{entry_of, IsStartRow}}
+use Rattle.point_exits.proofs.StartEntry.{entry_only}
 use Rattle.flow_check.specs.{Rows.{AreRowsFrom}, Staying.{IsRowOut, end_at, IsIn, IsOut}}
 use Rattle.flow_check.proofs.{TableRows.{same_table, rows_grown}, StayLaws.{end_in, end_out}}
 

@@ -15,8 +15,8 @@ use Rattle.flow_exits.proofs.ExactExits.{some_value}
 use Rattle.numbered_sets.specs.{declared.{table.NumberedRow.{NumberedRow}}, Numbers.{has_number}, NumberedEntries.{numbers_at}}
 use Rattle.numbered_sets.specs.{Pools.{Values, values_at, AreValues, IsNumberOf}, Views.{plain_entry, AreNumbersOf}, PlainTables.{row_at, plain_row, plain_table}}
 use Rattle.numbered_sets.proofs.{KnownNumbers.{order_onward, one_number}, ViewLaws.{values_of, same_domains}, WrittenRows.{row_entered, row_value, only_there}}
-use Rattle.flow_rules.specs.{declared.group.ExitGroup.{ExitGroup}, Groups.{all_exits, AreKnownGroups}, Rows.{IsRowIn}}
-use Rattle.flow_rules.proofs.{ProperRows.{set_known}, NumberLaws.{member_number, number_member}}
+use Rattle.point_exits.specs.{declared.group.ExitGroup.{ExitGroup}, Groups.{all_exits, AreKnownGroups}, Rows.{IsRowIn}}
+use Rattle.point_exits.proofs.{ProperRows.{set_known}, NumberLaws.{member_number, number_member}}
 use Rattle.flow_check.specs.{Rows.{AreRowsFrom, AreExitsOf}, Staying.{IsRowOut, exit_row, NumberedEnd, IsIn, IsOut, AreAllIn, IsSomeGroupOut}, Verdicts.{Leaves}, Flows.{StaysAt}}
 use Rattle.flow_check.proofs.TableRows.{in_row, row_in, plain_listed, listed_plain, pool_is, row_point}
 use Rattle.flow_check.proofs.GroupEnds.{HasEnd, exit_end, end_exit, exit_by, ends_known}

@@ -11,7 +11,7 @@ use Rattle.numbered_sets.specs.{declared.table.NumberedRow.{NumberedRow}, Pools.
 use Rattle.numbered_sets.specs.PlainTables.{row_at, plain_row, plain_rows, plain_table, AreRowsOf}
 use Rattle.numbered_sets.proofs.ViewLaws.{same_view, still_known}
 use Rattle.numbered_sets.proofs.WrittenRows.{rows_ascend, row_there, row_entered, row_value, only_there, row_allowed, row_filled, number_domains_of}
-use Rattle.flow_rules.specs.Rows.{IsProperRow}
+use Rattle.point_exits.specs.Rows.{IsProperRow}
 use Rattle.flow_check.specs.Rows.{number_of, AreInOrder, HasNoRowWith, AreRowsFrom}
 
 -- ---- by value

@@ -7,8 +7,8 @@ use Rattle.abstract_state.specs.declared.table.TableRow.{TableRow}
 use Rattle.flow_model.specs.{declared.case.Decision.{Decision}, Effects.{IsAt}, Scheduling.{outcome_of_decision}}
 use Rattle.flow_exits.specs.declared.exit.Exit.{Exit}
 use Rattle.numbered_sets.specs.Pools.{Values}
-use Rattle.flow_rules.specs.{declared.group.{Ends.{Ends}, ExitGroup.{ExitGroup}}, Groups.{all_exits}}
-use Rattle.flow_rules.specs.declared.group.Ends.TheVariants as ends
+use Rattle.point_exits.specs.{declared.group.{Ends.{Ends}, ExitGroup.{ExitGroup}}, Groups.{all_exits}}
+use Rattle.point_exits.specs.declared.group.Ends.TheVariants as ends
 use Rattle.flow_check.specs.declared.found.Findings.{Findings}
 use Rattle.flow_check.specs.declared.found.Found.TheVariants as found
 use Rattle.flow_check.specs.{Found.{AreFindings}, Rows.{AreExitsOf}}

@@ -6,8 +6,8 @@ use Rattle.abstract_state.specs.{Components.{component_count}, Tables.{Sets, set
 use Rattle.flow_exits.specs.declared.exit.Exit.{Exit}
 use Rattle.numbered_sets.specs.declared.{numbered_entry.NumberedEntry.{NumberedEntry}, table.NumberedRow.{NumberedRow}}
 use Rattle.numbered_sets.specs.{NumberedEntries.{numbers_at, IsBelowNumbers}, Within.{HasNumberBeside}, PlainTables.{row_at}}
-use Rattle.flow_rules.specs.{declared.group.{NumberEnd.{NumberEnd}, Ends.{Ends}, ExitGroup.{ExitGroup}}, Groups.{with_end}}
-use Rattle.flow_rules.specs.declared.group.Ends.TheVariants as ends
+use Rattle.point_exits.specs.{declared.group.{NumberEnd.{NumberEnd}, Ends.{Ends}, ExitGroup.{ExitGroup}}, Groups.{with_end}}
+use Rattle.point_exits.specs.declared.group.Ends.TheVariants as ends
 use Rattle.flow_check.specs.Rows.{IsRowWith, HasNoRowWith}
 
 -- ---- by values

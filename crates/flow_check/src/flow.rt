@@ -8,10 +8,10 @@ use crate::outcomes::{add_groups, no_findings};
 use crate::rows::row_groups;
 use crate::staying::all_stay;
 use abstract_state::Point;
-use flow_rules::Levels;
 use numbered_sets::{NumberedRow, Pool};
 use osek_standard::App;
 use osek_values::{Memory, Seq};
+use point_exits::Levels;
 use std::alloc::Global;
 
 /// Where the steps from the states of a table lead.

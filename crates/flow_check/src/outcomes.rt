@@ -5,17 +5,17 @@ ghost use Rattle.osek_values.specs.declared.numbers.BlockNo.{BlockNo};
 ghost use Rattle.abstract_state.specs.{declared.table.TableRow.{TableRow}, Written.{IsWritten}};
 ghost use Rattle.flow_exits.specs.declared.exit.Exit.{Exit};
 ghost use Rattle.numbered_sets.specs.{Pools.{Values, IsLonger}, Views.{AreNumbersOf}, PlainTables.{plain_row}};
-ghost use Rattle.flow_rules.specs.{Levels.{AreLevels}, Rows.{IsProperRow}, Groups.{exits_of, all_exits}};
+ghost use Rattle.point_exits.specs.{Levels.{AreLevels}, Rows.{IsProperRow}, Groups.{exits_of, all_exits}};
 ghost use Rattle.flow_check.specs.Outcomes.{end_count, AreOfExits, AreFound, IsFoundBeside, first_found};
 
 use crate::found::Findings;
 use crate::rows::row_groups;
 use abstract_state::Point;
-use flow_rules::{Ends, ExitGroup, Levels};
 use image_model::is_site;
 use numbered_sets::{NumberedRow, Pool, Table};
 use osek_standard::App;
 use osek_values::{BlockNo, Memory, Seq};
+use point_exits::{Ends, ExitGroup, Levels};
 use std::alloc::Global;
 
 /// What is found at each block that is a site, over the rows of a table.

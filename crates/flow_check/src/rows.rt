@@ -2,15 +2,15 @@
 ghost use Rattle.std.specs.{Prelude.{◌≡◌, ◌<◌, IfOk, OnOk, IfSome, IfNone}, Bool.{OnTrue}};
 ghost use Rattle.osek_standard.specs.Points.{point_number};
 ghost use Rattle.numbered_sets.specs.{Pools.{IsLonger}, Views.{AreNumbersOf}, PlainTables.{plain_row}};
-ghost use Rattle.flow_rules.specs.{Groups.{all_exits, AreKnownGroups}, Levels.{AreLevels}, Rows.{IsProperRow}};
+ghost use Rattle.point_exits.specs.{Groups.{all_exits, AreKnownGroups}, Levels.{AreLevels}, Rows.{IsProperRow}};
 ghost use Rattle.flow_check.specs.Rows.{AreInOrder, IsRowWith, HasNoRowWith, AreExitsOf};
 
 use abstract_state::Point;
 use flow_exits::laws::steps_end_at_exits;
-use flow_rules::{ExitGroup, Levels, exit_groups};
 use numbered_sets::{NumberedRow, Pool};
 use osek_standard::App;
 use osek_values::Memory;
+use point_exits::{ExitGroup, Levels, exit_groups};
 use std::alloc::Global;
 
 /// The row of a point, found by halving.

@@ -6,10 +6,10 @@ ghost use Rattle.numbered_sets.specs.{Pools.{IsLonger}, PlainTables.{plain_table
 ghost use Rattle.flow_check.specs.{Rows.{AreRowsFrom}, Verdicts.{StartsIn, IsFirstStartOut}};
 
 use crate::staying::is_in;
-use flow_rules::start_row;
 use numbered_sets::{NumberedRow, Pool, numbered};
 use osek_standard::App;
 use osek_values::{Memory, ModeNo};
+use point_exits::start_row;
 use std::alloc::Global;
 
 /// The first mode whose start isn't in the table of these rows. The pool may grow.

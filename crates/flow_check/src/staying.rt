@@ -1,15 +1,15 @@
 //! Whether the exits of a point lead into the rows of a table.
 ghost use Rattle.std.specs.{Prelude.{◌≡◌, Contains, IfOk, OnOk}, Bool.{OnTrue, OnFalse}};
-ghost use Rattle.flow_rules.specs.declared.group.ExitGroup.{ExitGroup};
-ghost use Rattle.flow_rules.specs.declared.group.Ends.TheVariants as ends_of;
-ghost use Rattle.flow_rules.specs.Groups.{with_end};
+ghost use Rattle.point_exits.specs.declared.group.ExitGroup.{ExitGroup};
+ghost use Rattle.point_exits.specs.declared.group.Ends.TheVariants as ends_of;
+ghost use Rattle.point_exits.specs.Groups.{with_end};
 ghost use Rattle.flow_check.specs.{Rows.{AreInOrder}, Staying.{IsIn, IsOut, AreIn, IsSomeOut, AreAllIn, IsSomeGroupOut, HasSetOf, HasSetFor, end_at, ends_by}};
 
 use crate::rows::row_at;
 use abstract_state::Point;
-use flow_rules::{Ends, ExitGroup, NumberEnd};
 use numbered_sets::{NumberedEntry, NumberedRow};
 use osek_values::Memory;
+use point_exits::{Ends, ExitGroup, NumberEnd};
 use std::alloc::Global;
 
 /// Whether each exit of the groups leads into the rows.

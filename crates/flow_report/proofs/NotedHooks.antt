@@ -8,7 +8,7 @@ use Rattle.abstract_state.specs.declared.table.TableRow.{TableRow}
 use Rattle.flow_model.specs.{declared.case.Decision.{Decision}, Rules.{mark_by}}
 use Rattle.flow_exits.specs.declared.exit.Exit.{Exit}
 use Rattle.numbered_sets.specs.Pools.{Values}
-use Rattle.flow_rules.specs.{declared.group.ExitGroup.{ExitGroup}, Groups.{exits_of}}
+use Rattle.point_exits.specs.{declared.group.ExitGroup.{ExitGroup}, Groups.{exits_of}}
 use Rattle.flow_check.{specs.Outcomes.{end_count}, proofs.ExitOutcomes.{alike_in_group, some_in_group, none_in_group}}
 use Rattle.flow_report.specs.{Noting.{due_hooks, NotesByExit, NotesAtStart, NotesInRow, NotesInRows, AreHooks}}
 use Rattle.flow_report.proofs.HookBits.{has_hook_of_both, has_no_hook}

@@ -5,7 +5,7 @@ ghost use Rattle.osek_standard.specs.{Points.{IsPoint}, Effects.{is_error as is_
 ghost use Rattle.abstract_state.specs.{Tables.{sets_of}, Written.{IsWritten}};
 ghost use Rattle.flow_model.specs.Scheduling.{outcome_of_decision};
 ghost use Rattle.numbered_sets.specs.{Pools.{Values, IsLonger}, Views.{AreNumbersOf}, PlainTables.{plain_row}};
-ghost use Rattle.flow_rules.specs.{Levels.{AreLevels}, Rows.{IsProperRow}, Groups.{exits_of}};
+ghost use Rattle.point_exits.specs.{Levels.{AreLevels}, Rows.{IsProperRow}, Groups.{exits_of}};
 ghost use Rattle.flow_check.specs.Outcomes.{end_count};
 ghost use Rattle.flow_report.specs.Noting.{AreHooks, NotesAtStart, NotesInRow, NotesInRows, NotesInTable, NotesByExit, due_hooks};
 ghost use Rattle.flow_report.specs.Noting.{shuts_down as shuts_down_at, over_some as over_some_at, dispatch_hooks_at};
@@ -13,11 +13,11 @@ ghost use Rattle.flow_report.specs.Noting.{shuts_down as shuts_down_at, over_som
 use abstract_state::Point;
 use flow_exits::laws::steps_end_at_exits;
 use flow_model::Decision;
-use flow_rules::{Ends, ExitGroup, Levels, exit_groups};
 use generic_kernel::start;
 use numbered_sets::{NumberedRow, Pool, Table};
 use osek_standard::{App, Call, Kind};
 use osek_values::{HookSet, Memory, ModeNo, Status};
+use point_exits::{Ends, ExitGroup, Levels, exit_groups};
 use std::alloc::Global;
 
 /// The hooks that the start in some mode notes, or some step from a state in a table.

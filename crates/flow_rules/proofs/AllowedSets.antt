@@ -8,7 +8,7 @@ use Rattle.abstract_state.specs.declared.{value.{Domain.{Domain}, PartValue.{Par
 use Rattle.abstract_state.specs.{ValueOrder.{same_part, IsAscending}, Domains.{IsWithin, IsSound, domains}, Tables.{is_member, empty_set, set_at}}
 use Rattle.abstract_state.proofs.OrderLaws.{part_right, part_laws}
 use Rattle.flow_rules.specs.Allowed.{may_be, IsPartOf, IsAllowedPart}
-use Rattle.flow_rules.proofs.Passing.{any_end}
+use Rattle.point_exits.proofs.Passing.{any_end}
 
 passed_by : (a b t : Bool) → (b ≡ true → t ≡ false) → ((a || b) && t) ≡ (a && t)
 passed_by true b t h = refl

@@ -1,15 +1,14 @@
 -- Which values pass where values are barred.
-use Rattle.std.proofs.Common.{◌≡◌, ℕ, ◌+◌, ◌<◌, Bool, true, false, not, List, [], ◌∷◌, ◌++◌, length, get_or, take, flat_map, refl, sym, ap, subst, ◌∙◌, inl, inr, arith, IsTrue}
+use Rattle.std.proofs.Common.{◌≡◌, ℕ, ◌+◌, ◌<◌, Bool, true, false, not, List, [], ◌∷◌, ◌++◌, length, get_or, take, flat_map, refl, sym, ap, subst, ◌∙◌, inl, inr, IsTrue}
 use Rattle.std.specs.Prelude.{if◌then◌else◌}
-use Rattle.std.proofs.lemmas.{Bool.{cases_Bool}, Grind.{flat_map-append}, List.{append-nil, get_or_default, take_more, Elements.{Contains-get_or}}, Map.Views.{Contains-from_any}}
-use Rattle.osek_values.specs.Numbers.{alarm_no}
+use Rattle.std.proofs.lemmas.{Bool.{cases_Bool}, Grind.{flat_map-append}, List.{append-nil, take_more, Elements.{Contains-get_or}}, Map.Views.{Contains-from_any}}
 use Rattle.osek_standard.specs.declared.app.App.{App}
 use Rattle.osek_standard.proofs.Members.{Among, among_flat_map, flat_map_among, contained_among, among_contained}
 use Rattle.abstract_state.specs.declared.value.{Component.{Component}, ComponentNo.{ComponentNo}, PartValue.{PartValue}}
 use Rattle.abstract_state.specs.declared.value.Component.TheVariants as component
-use Rattle.abstract_state.specs.{declared.table.PlainEntry.{PlainEntry}, Components.{components, component_at, component_count, component_number, component_no, IsComponent}}
+use Rattle.abstract_state.specs.{declared.table.PlainEntry.{PlainEntry}, Components.{components, component_at, component_count, component_number, component_no}}
 use Rattle.abstract_state.specs.{Tables.{set_at, is_member}, ValueOrder.{same_part}}
-use Rattle.abstract_state.proofs.{ComponentLaws.{component_known, component_numbered}, OrderLaws.{part_right, part_itself}}
+use Rattle.abstract_state.proofs.{ComponentLaws.{component_numbered}, OrderLaws.{part_right, part_itself}}
 use Rattle.flow_model.specs.declared.{change.Change.{Change}, test.Condition.{Condition}}
 use Rattle.flow_model.specs.declared.test.Test.TheVariants as test
 use Rattle.flow_model.specs.{Effects.{AreIn}, Tests.{passes, PassesAll, value_after}}
@@ -77,9 +76,3 @@ module _ (app : App) (changes : List Change) (from kept : PlainEntry) where
 
 pub flat_more : {X Y : Type 0} (f : X → List Y) (xs : List X) (i : ℕ) (d : X) → i < length xs → flat_map f (take (i + 1) xs) ≡ flat_map f (take i xs) ++ f (get_or xs i d)
 flat_more f xs i d lt = ap (flat_map f) (take_more xs i d lt) ∙ flat_map-append f (take i xs) (get_or xs i d ∷ []) ∙ ap (λ ys. flat_map f (take i xs) ++ ys) (append-nil (f (get_or xs i d)))
-
--- a component of the list is the application's
-pub listed_component : (app : App) (items : List Component) (i : ℕ) (d : Component) → items ≡ components app → i < length items → IsComponent app (get_or items i d)
-listed_component app items i d is lt =
-    let known : i < component_count app = omega (arith, lt, ap length is) in
-    subst (IsComponent app) (get_or_default (components app) i (component.Alarm (alarm_no 0)) d known ∙ ap (λ (xs : List Component). get_or xs i d) (sym is)) (component_known app i known)

@@ -9,12 +9,13 @@ use Rattle.osek_standard.specs.declared.point.Point.{Point}
 use Rattle.osek_standard.specs.declared.point.Point.TheVariants as point
 use Rattle.osek_standard.specs.{Points.{point_at, IsPoint}, States.{place_by}, Outcomes.{Mark, Silent, Arrived, Did, shows}, Well.{IsActive}}
 use Rattle.osek_standard.proofs.Members.{among_left, among_right, among_cases, among_contained, contained_among, among_map, map_among}
-use Rattle.abstract_state.specs.{declared.{value.PartValue.{PartValue}, table.PlainEntry.{PlainEntry}}, Concrete.{AreAllowed}}
+use Rattle.abstract_state.specs.{declared.{table.PlainEntry.{PlainEntry}}}
 use Rattle.abstract_state.proofs.MarkLaws.{shown_instruction, shown_arrival}
 use Rattle.flow_model.specs.{declared.{case.{EffectCase.{EffectCase}, OutcomeCase.{OutcomeCase}}, rule.Rule.{Rule}, runner.Runner.{Runner}}, Runners.{Executes, IsNobodys}}
-use Rattle.flow_model.specs.{Effects.{AreIn, AreAllAllowed, IsAt}, Scheduling.{CoverOutcomes, AreExactOutcomes}, Rules.{IsMatched, Foresees, Covering, Exact}}
+use Rattle.flow_model.specs.{Effects.{AreAllAllowed, IsAt}, Scheduling.{CoverOutcomes, AreExactOutcomes}, Rules.{IsMatched, Foresees, Covering, Exact}}
 use Rattle.flow_exits.specs.Arrivals.{AreArrivals}
 use Rattle.flow_exits.proofs.Arriving.{arrival_covered, arrival_shown}
+use Rattle.point_exits.proofs.PassivePoints.{allowed_values, passive_by}
 use Rattle.flow_rules.specs.{Assembly.{rule_of, HasRulesFor, AreAdded, AreAllAdded}, Instructions.{AddsInstructionRules}}
 use Rattle.flow_rules.proofs.Assembling.{instruction_covered, instruction_foreseen, instruction_shown}
 
@@ -87,12 +88,6 @@ executes_there app point.Idle r h = absurd h
 executes_there app (point.Task b) r h = tt
 executes_there app (point.Routine b over) r h = tt
 
-pub passive_by : (s : State) (x : Processor) (p : Point) → point_at (place_by s x).block x ≡ p → IsNobodys p → IsActive x → ⊥
-passive_by s processor.Halted p e h a = a
-passive_by s processor.Idle p e h a = a
-passive_by s (processor.Running t) p e h a = subst IsNobodys (sym e) h
-passive_by s (processor.Interrupted k over) p e h a = subst IsNobodys (sym e) h
-
 active_by : (s : State) (x : Processor) (p : Point) → point_at (place_by s x).block x ≡ p → IsExecuting p → IsActive x
 active_by s processor.Halted p e h = subst IsExecuting (sym e) h
 active_by s processor.Idle p e h = subst IsExecuting (sym e) h
@@ -100,9 +95,6 @@ active_by s (processor.Running t) p e h = tt
 active_by s (processor.Interrupted k over) p e h = tt
 
 module _ (app : App) (p : Point) (entry : PlainEntry) (arrivals : List Rule) (a : AreArrivals app p arrivals) where
-  allowed_values : AreAllAllowed app p entry → (value : ℕ → PartValue) → AreIn app entry value → AreAllowed app p value
-  allowed_values allowed value within c lt = allowed c (value c) lt (within c lt)
-
   -- ---- arrivals alone
 
   passive_by_mark : (s : State) (choice : Bool) → IsNobodys p → IsAt app p entry s → (shows app s (Run choice) ≡ Silent → ⊥) → (m : Mark) → shows app s (Run choice) ≡ m → IsMatched app arrivals s (Run choice)
@@ -114,9 +106,6 @@ module _ (app : App) (p : Point) (entry : PlainEntry) (arrivals : List Rule) (a 
   passive_covering h s (Run choice) at loud = passive_by_mark s choice h at loud (shows app s (Run choice)) refl
   passive_covering h s (Irq i) at loud = absurd (loud refl)
   passive_covering h s (Tick c) at loud = absurd (loud refl)
-
-  pub passive_exact : IsPoint app p → AreAllAllowed app p entry → Exact app p entry arrivals
-  passive_exact is allowed rule value m within passes = arrival_shown app p rule value is (allowed_values allowed value within) (a.each rule m) passes
 
   -- nobody's instructions are foreseen
   pub passive_foresees : IsNobodys p → Foresees app p entry arrivals
@@ -143,6 +132,6 @@ module _ (app : App) (p : Point) (entry : PlainEntry) (arrivals : List Rule) (a 
 
     pub executing_exact : IsPoint app p → IsExecuting p → AreAllAllowed app p entry → Exact app p entry rules
     executing_exact is h allowed rule value m within passes = elim (i.added.each rule m) [
-      | inl old ↦ arrival_shown app p rule value is (allowed_values allowed value within) (a.each rule old) passes
+      | inl old ↦ arrival_shown app p rule value is (allowed_values app p entry allowed value within) (a.each rule old) passes
       | inr new ↦ instruction_shown app p entry i.effects arrivals rules i.added i.stays allowed (λ s w e. active_by s s.processor p e h) (i.exact allowed) rule value new within passes
     ]

@@ -12,7 +12,8 @@ use Rattle.flow_exits.specs.{declared.exit.Exit.{Exit}, Leaving.{effect_rule}}
 use Rattle.flow_exits.proofs.AfterEffect.{all_after, nothing_taken}
 use Rattle.flow_rules.specs.Assembly.{rule_of, AreAdded}
 use Rattle.flow_rules.proofs.PointRules.{outcomes_added}
-use Rattle.flow_rules.specs.{declared.group.ExitGroup.{ExitGroup}, Groups.{all_exits}, Deciding.{AddsFor, HasUnsettled, IsAny}, Ruling.{outcome_by, outcome_if, outcomes_by, AddsRulesOf}}
+use Rattle.flow_rules.specs.Ruling.{outcome_by, outcome_if, outcomes_by, AddsRulesOf}
+use Rattle.point_exits.specs.{declared.group.ExitGroup.{ExitGroup}, Groups.{all_exits}, Deciding.{AddsFor, HasUnsettled, IsAny}}
 use Rattle.flow_rules.proofs.BarredValues.{kept_pass, passing_kept}
 
 -- the second entry has the values of the first that states have at the point

@@ -8,9 +8,10 @@ use Rattle.flow_model.specs.Effects.{AreIn, AreAllAllowed}
 use Rattle.numbered_sets.specs.{declared.numbered_entry.NumberedEntry.{NumberedEntry}, NumberedEntries.{number_domains}, Pools.{Values, AreValues, pool_domains}}
 use Rattle.numbered_sets.specs.Views.{plain_entry, AreNumbersOf}
 use Rattle.numbered_sets.proofs.ViewLaws.{same_domains, sound_sets}
-use Rattle.flow_rules.proofs.KeptDomains.{its_domain}
+use Rattle.point_exits.proofs.KeptDomains.{its_domain}
 use Rattle.flow_rules.specs.Allowed.{IsAllowedPart}
-use Rattle.flow_rules.proofs.{AllowedSets.{part_domains, part_sound}, AllowedValues.{part_allowed, in_part}, EntryCounts.{sets_counted}}
+use Rattle.flow_rules.proofs.{AllowedSets.{part_domains, part_sound}, AllowedValues.{part_allowed, in_part}}
+use Rattle.point_exits.proofs.EntryCounts.{sets_counted}
 
 module _ (app : App) (p : Point) (pool : List Values) (entry : NumberedEntry) (from : PlainEntry) (alike : number_domains entry ≡ domains_of app) (all : All AreValues pool) (known : AreNumbersOf pool entry)
     (part : IsAllowedPart app p (plain_entry pool entry) from) where

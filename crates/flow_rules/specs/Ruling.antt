@@ -7,7 +7,8 @@ use Rattle.flow_model.specs.declared.{case.{Decision.{Decision}, EffectCase.{Eff
 use Rattle.flow_model.specs.declared.test.Test.TheVariants as test
 use Rattle.flow_model.specs.{Tests.{PassesAll, value_after, values_after}, Effects.{AreIn}, Scheduling.{Decides}}
 use Rattle.flow_exits.specs.declared.exit.Exit.{Exit}
-use Rattle.flow_rules.specs.{Assembly.{rule_of}, Deciding.{IsUnsettled, HasUnsettled}}
+use Rattle.flow_rules.specs.Assembly.{rule_of}
+use Rattle.point_exits.specs.Deciding.{IsUnsettled, HasUnsettled}
 
 -- a value is barred of which the changes make none that is kept
 abbrev pub bars : List Change → ValueSet → ComponentNo → PartValue → List Condition

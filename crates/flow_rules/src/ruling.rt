@@ -5,16 +5,14 @@ ghost use Rattle.abstract_state.specs.Domains.{domains, domains_of};
 ghost use Rattle.flow_model.specs.{Effects.{AreAllAllowed, IsKnownStay}, Rules.{Covering, Exact, Foresees}};
 ghost use Rattle.numbered_sets.specs.{NumberedEntries.{number_domains}, Pools.{IsLonger}, Views.{plain_entry, AreNumbersOf}};
 ghost use Rattle.flow_exits.specs.Leaving.{effect_rule};
-ghost use Rattle.flow_rules.specs.{Instructions.{AddsInstructionRules as AddsInstructionRules}, Applying.{KeepsDomains}, Levels.{AreLevels}};
-ghost use Rattle.flow_rules.specs.{Groups.{exit_at as exit_of_group, exits_of, all_exits, IsKnownGroup, AreKnownGroups}, Ruling.{outcomes_by, AddsRulesOf}};
+ghost use Rattle.flow_rules.specs.{Allowed.{IsAllowedPart}, Instructions.{AddsInstructionRules}};
+ghost use Rattle.point_exits.specs.{Applying.{KeepsDomains}, Levels.{AreLevels}};
+ghost use Rattle.flow_rules.specs.Ruling.{outcomes_by, AddsRulesOf};
+ghost use Rattle.point_exits.specs.Groups.{exit_at as exit_of_group, exits_of, all_exits, IsKnownGroup, AreKnownGroups};
 
-use crate::after_effect::AfterEffect;
 use crate::allowing::allowed_part;
 use crate::assembly::add_rules;
 use crate::barring::barred;
-use crate::before_effect::BeforeEffect;
-use crate::group::{Ends, ExitGroup};
-use crate::levels::Levels;
 use abstract_state::{PlainEntry, Point};
 use flow_effects::effect_cases;
 use flow_exits::{Exit, arrivals};
@@ -22,6 +20,7 @@ use flow_model::{Change, EffectCase, OutcomeCase, Rule, Runner};
 use numbered_sets::{NumberedEntry, Pool, numbered, plain};
 use osek_standard::App;
 use osek_values::{Memory, Seq};
+use point_exits::{AfterEffect, BeforeEffect, Ends, ExitGroup, Levels};
 use std::alloc::Global;
 
 /// The rules of a point, over the values that its entry has: one for each routine that may begin there, and one for each
@@ -50,6 +49,22 @@ pub fn rules(
     }
 }
 
+// the values of an entry that well-formed states have at a point
+fn allowed_values(
+    alloc: Global,
+    app: &App,
+    point: Point,
+    pool: &Pool,
+    entry: &NumberedEntry,
+) -> Result<PlainEntry, Memory>
+    requires numbers { AreNumbersOf pool.now entry.now }
+    requires domains { number_domains entry.now ≡ domains_of app.now }
+    ensures { IfOk result (IsAllowedPart app.now point (plain_entry pool.now entry.now)) }
+{
+    let plain = plain(alloc, pool, entry)?;
+    allowed_part(alloc, app, point, &plain)
+}
+
 // adds the rules of the instruction of a task's or a routine's point
 fn add_instructions(
     alloc: Global,
@@ -65,9 +80,8 @@ fn add_instructions(
     ensures { OnOk result (AddsInstructionRules app.now point (plain_entry pool.now entry.now) rules.old rules.new) }
 {
     pool.are_values();
-    let plain = plain(alloc, pool, entry)?;
     // of other values an effect might make some that no state has
-    let from = allowed_part(alloc, app, point, &plain)?;
+    let from = allowed_values(alloc, app, point, pool, entry)?;
     let mut grown = pool.copy(alloc)?;
     let numbers = numbered(alloc, &mut grown, &from)?;
     let mut levels = Levels::new(alloc, app, &grown)?;

@@ -1,46 +1,13 @@
-//! Who has the processor after a decision comes in, where it names an INTERNAL resource.
+//! The changes by which who has the processor after a decision comes in.
 ghost use Rattle.std.specs.Prelude.{◌≡◌, ◌<◌, length, IfOk};
-ghost use Rattle.flow_model.specs.Scheduling.{goes_inside as goes_inside_of, has_it_after as has_it_after_of, is_at_task as is_at_task_of, settling as settling_of};
+ghost use Rattle.flow_model.specs.Scheduling.{goes_inside as goes_inside_of, settling as settling_of};
 
-use crate::group::ExitGroup;
-use crate::levels::Levels;
-use abstract_state::{ComponentNo, Point};
-use flow_model::{Change, Decision, Runner, Stay, Update};
-use numbered_sets::Pool;
+use abstract_state::ComponentNo;
+use flow_model::{Change, Decision, Stay, Update};
 use osek_standard::App;
 use osek_values::{Memory, Seq, TaskNo};
+use point_exits::has_it_after;
 use std::alloc::Global;
-
-// whether a task has the processor after a decision, where it else stays there.
-fn has_it_after(app: &App, stay: Stay, decision: Decision, task: TaskNo) -> bool
-    requires { task.0 < length app.now.tasks }
-    ensures { result ≡ has_it_after_of app.now stay decision task.0 }
-{
-    match decision {
-        Decision::To(None) => false,
-        Decision::To(Some(winner)) => winner == task,
-        Decision::Keep => match stay {
-            Stay::At(point) => is_at_task(app, point, task),
-            Stay::AtBlockOf(Runner::Task(owner)) => owner == task,
-            Stay::AtBlockOf(Runner::Routine { .. }) => false,
-        },
-    }
-}
-
-// whether a point is at a block of a task
-fn is_at_task(app: &App, point: Point, task: TaskNo) -> bool
-    requires { task.0 < length app.now.tasks }
-    ensures { result ≡ is_at_task_of app.now point task.0 }
-{
-    match point {
-        Point::Task(block) => {
-            let task = app.task(task);
-            let first = task.first.index();
-            first <= block.index() && block.index() < first + usize::from(task.count)
-        }
-        Point::Halted | Point::Idle | Point::Routine { .. } => false,
-    }
-}
 
 // whether a task has the processor after a decision, and names an INTERNAL resource
 fn goes_inside(app: &App, stay: Stay, decision: Decision, task: TaskNo) -> bool
@@ -69,74 +36,4 @@ pub fn settling_changes(
         }
     }
     Ok(changes)
-}
-
-/// What groups of exits are settled by: the values by number, and where the processor stays after the effect.
-#[derive(Clone, Copy)]
-pub struct Settling<'a> {
-    pub app: &'a App,
-    pub pool: &'a Pool,
-    pub levels: &'a Levels,
-    pub stay: Stay,
-}
-
-impl<'a> Settling<'a> {
-    ghost use Rattle.std.specs.Prelude.{ℕ, ◌≡◌, ◌<◌, ◌≤◌, true, false, length, slice_index_or, IfSome, IfNone, OnOk};
-    ghost use Rattle.flow_model.specs.Scheduling.{goes_inside};
-    ghost use Rattle.flow_rules.specs.declared.insides.Insides.{Insides};
-    ghost use Rattle.flow_rules.specs.{Groups.{IsKnownGroup, AreKnownGroups}, Levels.{AreAllLevels}, Settling.{IsSettledGroup, AreSettledFrom}};
-
-    /// Settles the groups from a place on.
-    pub fn settle(
-        &self,
-        alloc: Global,
-        from: usize,
-        groups: &mut Vec<ExitGroup>,
-    ) -> Result<(), Memory>
-        requires levels { AreAllLevels self.now.app.now self.now.pool.now self.now.levels.now }
-        requires pool { length self.now.app.now.tasks ≤ length self.now.pool.now }
-        requires known { AreKnownGroups self.now.pool.now groups.old.items }
-        requires from { from ≤ length groups.old.items }
-        ensures { OnOk result (AreSettledFrom self.now.app.now self.now.pool.now self.now.stay from groups.old.items groups.new.items) }
-    {
-        if self.levels.insides.is_empty() {
-            return Ok(());
-        }
-        for place in from..groups.len() {
-            self.settle_group(alloc, &mut groups[place])?;
-        }
-        Ok(())
-    }
-
-    // a group by which a routine begins stays as it is
-    fn settle_group(&self, alloc: Global, group: &mut ExitGroup) -> Result<(), Memory>
-        requires levels { AreAllLevels self.now.app.now self.now.pool.now self.now.levels.now }
-        requires pool { length self.now.app.now.tasks ≤ length self.now.pool.now }
-        requires known { IsKnownGroup self.now.pool.now group.old }
-        ensures { OnOk result (IsSettledGroup self.now.app.now self.now.pool.now self.now.stay group.old group.new) }
-    {
-        let Some(decision) = group.decision else {
-            return Ok(());
-        };
-        match self.entering(decision) {
-            None => Ok(()),
-            Some(place) => self.levels.insides.at(place).settle(alloc, group),
-        }
-    }
-
-    // the place of the task that comes in by a decision
-    fn entering(&self, decision: Decision) -> Option<usize>
-        requires { AreAllLevels self.now.app.now self.now.pool.now self.now.levels.now }
-        ensures known { IfSome result (λ place. place < length self.now.levels.now.insides) }
-        ensures goes { IfSome result (λ place. (d : Insides) → goes_inside self.now.app.now self.now.stay decision (slice_index_or self.now.levels.now.insides place d).task.0 ≡ true) }
-        ensures none { IfNone result ((c : ℕ) → goes_inside self.now.app.now self.now.stay decision c ≡ false) }
-    {
-        for place in 0..self.levels.insides.len() {
-            let task = self.levels.insides.at(place).task;
-            if has_it_after(self.app, self.stay, decision, task) {
-                return Some(place);
-            }
-        }
-        None
-    }
 }

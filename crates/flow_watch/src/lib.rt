@@ -2,6 +2,7 @@
 #![tactic(auto)]
 
 mod alarm;
+mod hints;
 pub mod laws;
 mod places;
 mod watch;

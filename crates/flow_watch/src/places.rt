@@ -1,5 +1,5 @@
 //! Whether a point, or an edge, is in a list in its order.
-ghost use Rattle.std.specs.{Prelude.{◌≡◌, ◌<◌, ◌==◌, ◌&&◌, ◌||◌, nat_lt}, List.{list_any}};
+ghost use Rattle.std.specs.{Prelude.{◌≡◌, ◌<◌, ◌==◌, ◌&&◌, ◌||◌, nat_lt, true, false, MatchOption}, List.{list_any}};
 ghost use Rattle.osek_standard.specs.Points.{point_number};
 ghost use Rattle.abstract_state.specs.Tables.{same_point};
 ghost use Rattle.global_cfg.specs.{Edges.{AreAscending}, PointOrder.{AreInOrder}};
@@ -44,16 +44,32 @@ fn leads(edge: FlowEdge, from: Point, to: Point) -> bool
     begins && is_same(to, edge.to)
 }
 
-/// Whether an edge from a point to another is among edges in their order.
-pub(crate) fn has_edge(edges: &[FlowEdge], from: Point, to: Point) -> bool
+/// Whether the edge that stands at a place leads from a point to another.
+pub(crate) fn leads_at(edges: &[FlowEdge], place: usize, from: Point, to: Point) -> bool
+    ensures { result ≡ true → list_any (leads_to from to) edges.now ≡ true }
+{
+    match edges.get(place) {
+        None => false,
+        Some(edge) => leads(*edge, from, to),
+    }
+}
+
+/// Where an edge from a point to another stands among edges in their order, if it is one of them.
+pub(crate) fn edge_place(edges: &[FlowEdge], from: Point, to: Point) -> Option<usize>
     requires { AreAscending edges.now }
-    ensures { result ≡ list_any (leads_to from to) edges.now }
+    ensures { MatchOption result (list_any (leads_to from to) edges.now ≡ false) (λ place. list_any (leads_to from to) edges.now ≡ true) }
 {
     let begin = from.number();
     let end = to.number();
     let place = edges.partition_point(|edge| is_before(*edge, begin, end));
     match edges.get(place) {
-        None => false,
-        Some(edge) => leads(*edge, from, to),
+        Some(edge) => {
+            if leads(*edge, from, to) {
+                Some(place)
+            } else {
+                None
+            }
+        }
+        None => None,
     }
 }

@@ -3,7 +3,8 @@ ghost use Rattle.std.specs.Prelude.{◌≡◌, map, IfOk};
 ghost use Rattle.abstract_state.specs.declared.table.TableRow.{TableRow};
 
 use crate::alarm::Alarm;
-use crate::places::{has_edge, has_point, is_same};
+use crate::hints::Hints;
+use crate::places::{edge_place, has_point, is_same, leads_at};
 use abstract_state::FlowEdge;
 use global_cfg::edges;
 use numbered_sets::Table;
@@ -18,6 +19,7 @@ pub struct Watch {
     app: App,
     entries: Seq<Point>,
     edges: Seq<FlowEdge>,
+    hints: Hints,
     seen: u64,
     last: Option<Point>,
     alarm: Option<Alarm>,
@@ -51,7 +53,8 @@ impl Watch {
     ghost use Rattle.std.specs.Prelude.{◌≡◌, ◌<◌, ◌^◌, ◌-◌, List, length, IfOk, None};
     ghost use Rattle.osek_values.specs.declared.{event.Event.{Event}, numbers.ModeNo.{ModeNo}};
     ghost use Rattle.abstract_state.specs.{Tables.{Least, sets_of}, Written.{IsWritten}};
-    ghost use Rattle.flow_watch.specs.{Records.{IsQuiet, record_of}, Watches.{IsWatchOf, may_come, seen_by}};
+    ghost use Rattle.std.specs.List.{list_any};
+    ghost use Rattle.flow_watch.specs.{Records.{IsQuiet, record_of}, Watches.{IsWatchOf, leads_to, may_come, seen_by}};
 
     /// A watch over the least table of an application, which saw nothing yet.
     pub fn new(alloc: Global, app: App, table: &Table) -> Result<Watch, Memory>
@@ -63,23 +66,44 @@ impl Watch {
     {
         let entries = entries(alloc, table)?;
         let edges = edges(alloc, &app, table)?;
+        let hints = Hints::new(alloc)?;
         Ok(Watch {
             app,
             entries,
             edges,
+            hints,
             seen: 0,
             last: None,
             alarm: None,
         })
     }
 
+    // Whether an edge leads from a point to another. Where it was found before is looked at first.
+    fn has_edge(&mut self, from: Point, to: Point) -> bool
+        ensures same { self.new ≡ self.old }
+        ensures edge { result ≡ list_any (leads_to from to) self.old.edges }
+    {
+        let edges = self.edges.as_slice();
+        if leads_at(edges, self.hints.place(from, to), from, to) {
+            return true;
+        }
+        match edge_place(edges, from, to) {
+            None => false,
+            Some(place) => {
+                self.hints.note(from, to, place);
+                true
+            }
+        }
+    }
+
     // Whether a point may come behind the last one.
-    fn may_come(&self, point: Point) -> bool
-        ensures { result ≡ may_come self.now self.now.last point }
+    fn may_come(&mut self, point: Point) -> bool
+        ensures same { self.new ≡ self.old }
+        ensures comes { result ≡ may_come self.old self.old.last point }
     {
         match self.last {
             None => has_point(self.entries.as_slice(), point),
-            Some(last) => is_same(last, point) || has_edge(self.edges.as_slice(), last, point),
+            Some(last) => is_same(last, point) || self.has_edge(last, point),
         }
     }
 

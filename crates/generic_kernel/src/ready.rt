@@ -1,10 +1,10 @@
 //! The tasks that are ready or running, kept from step to step, and the best of them.
-ghost use Rattle.std.specs.Prelude.{◌≡◌, ◌≢◌, ◌+◌, ◌<◌, ◌≤◌, length, nat_lt, ℕ, None, IfSome, IfNone, IsTrue, ◌||◌, true, false, slice_index_or};
+ghost use Rattle.std.specs.Prelude.{◌≡◌, ◌↔◌, Some, ◌≢◌, ◌+◌, ◌<◌, ◌≤◌, length, nat_lt, ℕ, None, IfSome, IfNone, IsTrue, ◌||◌, true, false, slice_index_or};
 ghost use Rattle.std.specs.List.{count_by};
 ghost use Rattle.osek_standard.specs.{declared.{app.App.{App}, state.State.{State}}, TaskStates.{is_live}, States.{is_that_task, task_state}, Priority.{best}};
 ghost use Rattle.osek_values.specs.Line.{place_in_line};
 ghost use Rattle.osek_standard.specs.{Line.{turn}, Well.{Well, HasProcessor}};
-ghost use Rattle.generic_kernel.specs.{BestBelow.{IsBestBelow, some_of}, Changes.{ChangesOnly}, Levels.{IsReady, count_of, level as level_of, priority_in}};
+ghost use Rattle.generic_kernel.specs.{BestBelow.{IsBestBelow, IsHighestBelow, some_of}, Changes.{ChangesOnly}, Levels.{IsReady, count_of, level as level_of, priority_in}};
 
 use ceiling_rules::current_priority;
 use osek_standard::{App, State};
@@ -51,33 +51,12 @@ fn priority(level: Option<u32>) -> u32
     }
 }
 
-/// Whether a task stands in the line before another; those that don't stand there come behind all, by number.
-fn stands_before(line: &[TaskNo], task: TaskNo, other: TaskNo) -> bool
-    ensures { result ≡ nat_lt (place_in_line line.now task.0) (place_in_line line.now other.0) }
-{
-    for next in line {
-        if *next == other {
-            return false;
-        }
-        if *next == task {
-            return true;
-        }
-    }
-    task.0 < other.0
-}
-
-/// Whether a task's turn comes before another's.
-fn is_earlier(state: &State, task: TaskNo, other: TaskNo) -> bool
-    ensures { result ≡ nat_lt (turn state.now task.0) (turn state.now other.0) }
-{
-    let current = state.current();
-    if current == Some(other) {
-        return false;
-    }
-    if current == Some(task) {
-        return true;
-    }
-    stands_before(state.line.as_slice(), task, other)
+/// A Live task of the highest current priority, of several the first by number, and whether there are several.
+#[derive(Clone, Copy)]
+struct Highest {
+    task: TaskNo,
+    priority: u32,
+    ties: bool,
 }
 
 impl Ready {
@@ -149,35 +128,94 @@ impl Ready {
         priority(self.levels[first.index()]) < priority(self.levels[second.index()])
     }
 
-    /// The better of the best so far and the next task: the one of the higher priority, and between equal ones the one whose
-    /// turn is earlier.
-    fn better<L: Ledger>(
+    /// Whether a task is Live and has this current priority.
+    fn has_priority(&self, task: TaskNo, priority: u32) -> bool
+        ensures { IsTrue result ↔ (slice_index_or self.now task.0 None ≡ Some priority) }
+    {
+        match self.levels.get(task.index()) {
+            Some(Some(level)) => *level == priority,
+            _ => false,
+        }
+    }
+
+    /// The higher of the highest so far and the next task.
+    fn higher<L: Ledger>(
         &self,
-        state: &State,
-        found: Option<TaskNo>,
+        found: Option<Highest>,
         task: TaskNo,
         scans: &mut Steps<L>,
-    ) -> Option<TaskNo>
+    ) -> Option<Highest>
         requires known { task.0 < MAX_TASKS }
-        requires below { IfSome found (λ t. t.0 < task.0) }
-        ensures below { IfSome result (λ t. t.0 < task.0 + 1) }
-        ensures best { (app : App) → IsReady app state.now self.now → IsBestBelow app state.now task.0 found → IsBestBelow app state.now (task.0 + 1) result }
+        requires below { IfSome found (λ h. h.task.0 < task.0) }
+        requires has { IfSome found (λ h. slice_index_or self.now h.task.0 None ≡ Some h.priority) }
+        ensures has { IfSome result (λ h. slice_index_or self.now h.task.0 None ≡ Some h.priority) }
+        ensures below { IfSome result (λ h. h.task.0 < task.0 + 1) }
+        ensures highest { (app : App) (s : State) → IsReady app s self.now → IsHighestBelow app s task.0 found → IsHighestBelow app s (task.0 + 1) result }
         ensures scans { scans.new + some_of result ≡ scans.old + some_of found + count_of (slice_index_or self.now task.0 None) }
     {
-        if self.levels[task.index()].is_none() {
+        let Some(priority) = self.levels[task.index()] else {
             return found;
-        }
-        let Some(other) = found else {
-            return Some(task);
         };
-        if self.is_lower(other, task, scans) {
-            return Some(task);
+        let Some(highest) = found else {
+            return Some(Highest {
+                task,
+                priority,
+                ties: false,
+            });
+        };
+        if self.is_lower(highest.task, task, scans) {
+            return Some(Highest {
+                task,
+                priority,
+                ties: false,
+            });
         }
-        let tie = priority(self.levels[other.index()]) == priority(self.levels[task.index()]);
-        if tie && is_earlier(state, task, other) {
-            Some(task)
-        } else {
-            Some(other)
+        Some(Highest {
+            task: highest.task,
+            priority: highest.priority,
+            ties: highest.ties || highest.priority == priority,
+        })
+    }
+
+    /// Of the tasks of a priority the one whose place in the line is the first, or, where none stands there, the first by number.
+    fn first_in_line(&self, line: &[TaskNo], highest: Highest) -> TaskNo
+        requires { slice_index_or self.now highest.task.0 None ≡ Some highest.priority }
+        ensures priority { slice_index_or self.now result.0 None ≡ Some highest.priority }
+        ensures first { ((u : ℕ) → slice_index_or self.now u None ≡ Some highest.priority → highest.task.0 ≤ u) →
+            (u : ℕ) → slice_index_or self.now u None ≡ Some highest.priority → place_in_line line.now result.0 ≤ place_in_line line.now u }
+    {
+        for task in line {
+            if self.has_priority(*task, highest.priority) {
+                return *task;
+            }
+        }
+        highest.task
+    }
+
+    /// Of the tasks of a priority the one whose turn comes first.
+    fn first_in_turn(&self, state: &State, highest: Highest) -> TaskNo
+        requires { slice_index_or self.now highest.task.0 None ≡ Some highest.priority }
+        ensures priority { slice_index_or self.now result.0 None ≡ Some highest.priority }
+        ensures first { ((u : ℕ) → slice_index_or self.now u None ≡ Some highest.priority → highest.task.0 ≤ u) →
+            (u : ℕ) → slice_index_or self.now u None ≡ Some highest.priority → turn state.now result.0 ≤ turn state.now u }
+    {
+        match state.current() {
+            Some(current) if self.has_priority(current, highest.priority) => current,
+            _ => self.first_in_line(state.line.as_slice(), highest),
+        }
+    }
+
+    /// The task that is to run, by the highest of all tasks. The line is read where several are as high, as far as to the first of
+    /// them.
+    fn chosen(&self, state: &State, found: Option<Highest>) -> Option<TaskNo>
+        requires { IfSome found (λ h. slice_index_or self.now h.task.0 None ≡ Some h.priority) }
+        ensures best { (app : App) (n : ℕ) → IsReady app state.now self.now → IsHighestBelow app state.now n found → IsBestBelow app state.now n result }
+        ensures some { some_of result ≡ some_of found }
+    {
+        match found {
+            None => None,
+            Some(highest) if highest.ties => Some(self.first_in_turn(state, highest)),
+            Some(highest) => Some(highest.task),
         }
     }
 
@@ -192,8 +230,8 @@ impl Ready {
     {
         let mut found = None;
         for task in 0..MAX_TASKS {
-            found = self.better(state, found, TaskNo(task as u8), scans);
+            found = self.higher(found, TaskNo(task as u8), scans);
         }
-        found
+        self.chosen(state, found)
     }
 }

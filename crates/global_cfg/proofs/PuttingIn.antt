@@ -7,9 +7,9 @@ use Rattle.osek_standard.specs.{declared.point.Point.{Point}, Points.{point_numb
 use Rattle.flow_model.specs.declared.case.Decision.{Decision}
 use Rattle.flow_exits.specs.declared.exit.Exit.{Exit}
 use Rattle.numbered_sets.specs.Pools.{Values}
-use Rattle.flow_rules.specs.declared.group.{NumberEnd.{NumberEnd}, ExitGroup.{ExitGroup}}
-use Rattle.flow_rules.specs.declared.group.Ends.TheVariants as ends
-use Rattle.flow_rules.specs.Groups.{with_end, exit_at, exits_by}
+use Rattle.point_exits.specs.declared.group.{NumberEnd.{NumberEnd}, ExitGroup.{ExitGroup}}
+use Rattle.point_exits.specs.declared.group.Ends.TheVariants as ends
+use Rattle.point_exits.specs.Groups.{with_end, exit_at, exits_by}
 use Rattle.global_cfg.specs.{PointOrder.{AreInOrder, HasNumber, IsPut}, Targets.{leads, end_target, IsEndOf, AreAllPut, AreEndsPut, IsTargetAfter, ArePutAfter}}
 
 -- none is to be put in, or those that are have their numbers there

@@ -7,7 +7,7 @@ use Rattle.flow_model.specs.declared.case.Decision.{Decision}
 use Rattle.flow_model.specs.declared.case.Decision.TheVariants as decision
 use Rattle.flow_model.specs.Effects.{IsAt}
 use Rattle.flow_exits.specs.declared.exit.Exit.{Exit}
-use Rattle.flow_rules.specs.declared.group.NumberEnd.{NumberEnd}
+use Rattle.point_exits.specs.declared.group.NumberEnd.{NumberEnd}
 use Rattle.global_cfg.specs.PointOrder.{AreInOrder, HasNumber}
 
 -- the scheduler gives the processor to a task

@@ -6,10 +6,10 @@ ghost use Rattle.global_cfg.specs.Edges.{AreAscending};
 
 use crate::targets::targets;
 use abstract_state::{FlowEdge, Point};
-use flow_rules::Levels;
 use numbered_sets::Table;
 use osek_standard::App;
 use osek_values::{Memory, Seq};
+use point_exits::Levels;
 use std::alloc::Global;
 
 /// The edges that a table of the application dictates, by where they begin and then by where they end.

@@ -5,17 +5,17 @@ ghost use Rattle.abstract_state.specs.Written.{IsRow};
 ghost use Rattle.flow_model.specs.Effects.{AreAllAllowed};
 ghost use Rattle.flow_exits.specs.Exits.{IsFilled};
 ghost use Rattle.numbered_sets.specs.{Pools.{Values, IsLonger}, Views.{plain_entry, AreNumbersOf}};
-ghost use Rattle.flow_rules.specs.{Levels.{AreLevels}, Groups.{exits_of}};
+ghost use Rattle.point_exits.specs.{Levels.{AreLevels}, Groups.{exits_of}};
 ghost use Rattle.numbered_sets.specs.PlainTables.{plain_row};
 ghost use Rattle.global_cfg.specs.{Targets.{dispatches, leads, end_target, AreEndsPut, ArePutAfter, AreTargets}, PointOrder.{AreInOrder, IsPlaceOf, IsGapFor}};
 
 use abstract_state::Point;
 use flow_exits::laws::steps_end_at_exits;
 use flow_model::Decision;
-use flow_rules::{Ends, ExitGroup, Levels, NumberEnd, exit_groups};
 use numbered_sets::{NumberedRow, Pool};
 use osek_standard::App;
 use osek_values::Memory;
+use point_exits::{Ends, ExitGroup, Levels, NumberEnd, exit_groups};
 use std::alloc::Global;
 
 /// The points to which edges lead from the point of a row, in the order of the points. The pool may grow, and the levels with

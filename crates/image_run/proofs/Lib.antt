@@ -7,3 +7,4 @@ pub mod SiteLines
 pub mod UndoLaws
 pub mod QuietSteps
 pub mod TraplessSites
+pub mod InsideSteps

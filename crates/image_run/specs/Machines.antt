@@ -1,7 +1,8 @@
 -- A machine at work, and what an event makes of it.
-use Rattle.std.specs.{Prelude.{ℕ, List, Bool, true, Option, Some, None, Ok, Err, refl, if◌then◌else◌}, Coded.{Coded, code_by, coded×, coded_bool}, declared.result.Result.{Result}}
+use Rattle.std.specs.{Prelude.{ℕ, List, Bool, true, Option, Some, None, Ok, Err, refl, if◌then◌else◌}, Coded.{Coded, code_by, coded×, coded_bool}}
+use Rattle.std.specs.{declared.result.Result.{Result}}
 use Rattle.osek_values.specs.declared.{event.Event.{Event}, notes.Notes.{Notes}}
-use Rattle.osek_standard.specs.{declared.state.State.{State}, Dispatch.{Stepped}, Well.{Well}}
+use Rattle.osek_standard.specs.{declared.state.State.{State}, Dispatch.{Stepped}, Internal.{IsInside}, Well.{Well}}
 use Rattle.image_model.specs.{declared.image.Image.{Image}, contracts.image.Image.{the_row as image_row}}
 use Rattle.osek_standard.specs.contracts.state.State.{the_row as state_row}
 use Rattle.generic_kernel.specs.Levels.{IsReady}
@@ -43,7 +44,9 @@ abbrev pub noted : {X : Type 0} → Result Notes X → Option Notes
 noted (Ok n) = Some n
 noted (Err e) = None
 
--- the state of a machine is one of its application, and the Live tasks are those of the state
+-- the state of a machine is one of its application with the right tasks inside INTERNAL resources, and the Live tasks are those
+-- of the state
 pub record AreWell (i : Image) (s : State) (levels : List (Option ℕ)) : Type 0 where
   pub state : Well i.app s
+  pub inside : IsInside i.app s
   pub ready : IsReady i.app s levels

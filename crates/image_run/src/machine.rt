@@ -1,6 +1,6 @@
 //! The machine.
 ghost use Rattle.std.specs.Prelude.{◌≡◌, ◌+◌, ◌<◌, ◌≤◌, length, true, false, IfOk, Some};
-ghost use Rattle.osek_standard.specs.{Dispatch.{Stepped, stepped}, Kernel.{start as start_of}, Well.{Well}, Apps.{IsDeclared}};
+ghost use Rattle.osek_standard.specs.{Dispatch.{Stepped, stepped}, Internal.{IsInside}, Kernel.{start as start_of}, Well.{Well}, Apps.{IsDeclared}};
 ghost use Rattle.image_model.specs.ImageStep.{image_step as image_step_of};
 ghost use Rattle.image_run.specs.{Machines.{at_work, turn, turned, noted}, Noted.{noted_if}, Quiet.{KeepsTasks}, Scans.{most_scans}};
 
@@ -122,6 +122,7 @@ impl Machine {
     pub fn state(&self) -> &State
         ensures state { result.now ≡ self.now.state }
         ensures well { Well self.now.image.app self.now.state }
+        ensures inside { IsInside self.now.image.app self.now.state }
     {
         &self.state
     }

@@ -119,8 +119,8 @@ fn taken(alloc: Global, size: usize) -> Result<[usize; 3], Memory> {
 #[test]
 fn takes_what_there_is_room_for(rt: HostRuntime) {
     assert!(rt; taken(rt.alloc(), 4096) == Ok([4096, 4096, 0]));
-    assert!(rt; taken(rt.alloc(), 5000) == Ok([5000, 3192, 0]));
-    assert!(rt; taken(rt.alloc(), 9000) == Ok([8192, 0, 0]));
+    assert!(rt; taken(rt.alloc(), 40_000) == Ok([40_000, 33_728, 0]));
+    assert!(rt; taken(rt.alloc(), 80_000) == Ok([73_728, 0, 0]));
 }
 
 /// What two calls answer where a line isn't whole yet, and where it is.

@@ -132,23 +132,23 @@ module _ (app : App) where
 
   awaiting_deeds : (k : Kind) → AreDeeds app k (AllAwaitNone app) (λ r a. AllAwaitNone app r)
   awaiting_deeds kind_of = record {
-    counts = λ m c q. counting m c q;
-    arms = λ m a x q u. q u;
+    counts = λ m c q up. counting m c q;
+    arms = λ m a x q sets u. q u;
     rests = λ m w q. q;
     takes = λ m c r w q e free low. put m c.0 _ q (held_awaits m q c.0 _);
-    gives = λ m c n w q e. put m c.0 _ q (held_awaits m q c.0 _);
+    gives = λ m c n w q e goes. put m c.0 _ q (held_awaits m q c.0 _);
     routine_takes = λ m l r w q e free low u. q u;
     routine_gives = λ m l n w q e u. q u;
-    activates = λ m t w q known room u. activating m q t (task_state m t) refl u;
-    wakes = λ m t e w q known ext waits u. put m t (record { activity = released_from app (task_state m t).activity; events = mask (events_set app m t e) }) q
+    activates = λ m t w q known room goes u. activating m q t (task_state m t) refl u;
+    wakes = λ m t e w q known ext waits goes u. put m t (record { activity = released_from app (task_state m t).activity; events = mask (events_set app m t e) }) q
         (released_awaits (events_set app m t e) (own_events app m t e) (task_state m t).activity waits) u;
-    sets = λ m t e w q known waits. put m t _ q (set_awaits (task_state m t).events.0 (own_events app m t e) (task_state m t).activity (q t) waits);
-    clears = λ m c e w q r. put m c.0 _ q (live_awaits _ (task_state m c.0).activity (task_level_of app m c w r).running.1);
+    sets = λ m t e w q known waits sent. put m t _ q (set_awaits (task_state m t).events.0 (own_events app m t e) (task_state m t).activity (q t) waits);
+    clears = λ m c e w q r goes. put m c.0 _ q (live_awaits _ (task_state m c.0).activity (task_level_of app m c w r).running.1);
     ends = λ m c w q e goes. ending m q c.0;
-    chains = λ m c t w q e known room goes u. activating (left (ended app m c.0)) (ending m q c.0) t (task_state (left (ended app m c.0)) t) refl u;
+    chains = λ m c t w q e known room goes chained u. activating (left (ended app m c.0)) (ending m q c.0) t (task_state (left (ended app m c.0)) t) refl u;
     waits = λ m c w q e ext none goes u. put m c.0 _ q none u;
     lets_out = λ m c w q e none goes. insiding m q c.0 false;
-    returns = λ m l over o w q e f. returning m q l over o;
+    returns = λ m l over o w q e f goes. returning m q l over o;
     halts = λ m w q goes. halting m q m.processor;
   }
 

@@ -11,7 +11,7 @@ use Rattle.osek_standard.specs.declared.state.Processor.{Processor}
 use Rattle.osek_standard.specs.declared.state.Processor.TheVariants as processor
 use Rattle.kernel_guarantees.specs.Underway.{IsStacked, has_begun, is_current, is_underway}
 
-one_current : (o : Option TaskNo) (a b : ℕ) → is_that_task o a ≡ true → is_that_task o b ≡ true → a ≡ b
+pub one_current : (o : Option TaskNo) (a b : ℕ) → is_that_task o a ≡ true → is_that_task o b ≡ true → a ≡ b
 one_current None a b e f = absurd (false≢true e)
 one_current (Some v) a b e f = sym (eqb-true v.0 a e) ∙ eqb-true v.0 b f
 

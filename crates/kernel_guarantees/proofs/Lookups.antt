@@ -24,6 +24,12 @@ put_source s k x R here others l = elim (cases_lt k (length s.sources)) [
   | inr past ↦ subst (λ (sources : List Source). R l (source_state (record s { sources = sources }) l)) (sym (set_past s.sources k x past)) (others l)
 ]
 
+pub put_out : (s : State) (k : ℕ) → source_state (with_source s k source.Out) k ≡ source.Out
+put_out s k = elim (cases_lt k (length s.sources)) [
+  | inl known ↦ get_or-set_same s.sources k source.Out source.Out known
+  | inr past ↦ subst (λ (sources : List Source). source_state (record s { sources = sources }) k ≡ source.Out) (sym (set_past s.sources k source.Out past)) (get_or_past s.sources k source.Out past)
+]
+
 -- where all routines are put out, each is
 pub each_is_out : (s : State) (k : ℕ) → source_state (all_out s) k ≡ source.Out
 each_is_out s k = elim (cases_lt k (length s.sources)) [

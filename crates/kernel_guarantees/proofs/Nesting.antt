@@ -128,11 +128,11 @@ module _ (app : App) where
           task = λ l h. nested.task l (still_in l h);
         }
 
-  stack_in : (g : List ResNo) (x : Source) → is_in (source_with_stack x g) ≡ true → is_in x ≡ true
+  pub stack_in : (g : List ResNo) (x : Source) → is_in (source_with_stack x g) ≡ true → is_in x ≡ true
   stack_in g source.Out h = h
   stack_in g (source.In x) h = refl
 
-  place_in_source : (to : Place) (x : Source) → is_in (source_at x to) ≡ true → is_in x ≡ true
+  pub place_in_source : (to : Place) (x : Source) → is_in (source_at x to) ≡ true → is_in x ≡ true
   place_in_source to source.Out h = h
   place_in_source to (source.In x) h = refl
 
@@ -255,23 +255,23 @@ module _ (app : App) where
 
   nested_deeds : (k : Kind) → AreDeeds app k (IsNested app) (λ r a. IsNested app r)
   nested_deeds kind_of = record {
-    counts = λ m c h. counting_nests m c h;
-    arms = λ m a x h. record { apart = h.apart; greatest = h.greatest; task = h.task };
+    counts = λ m c h up. counting_nests m c h;
+    arms = λ m a x h sets. record { apart = h.apart; greatest = h.greatest; task = h.task };
     rests = λ m w h. h;
     takes = λ m c r w h e free low. nested_out _ (at_task m w h c e);
-    gives = λ m c n w h e. nested_out _ (at_task m w h c e);
+    gives = λ m c n w h e goes. nested_out _ (at_task m w h c e);
     routine_takes = λ m l r w h e free low. stack_nests m w h l _ m.processor refl e;
     routine_gives = λ m l n w h e. stack_nests m w h l _ m.processor refl e;
-    activates = λ m t w h known room. let g = task_nests m h w t _ (activation_has m w h t (task_state m t) (task_state m t).activity refl) in record { apart = g.apart; greatest = g.greatest; task = g.task };
-    wakes = λ m t e w h known ext waits. let g = task_nests m h w t _ (release_has m w h t (own_events app m t e) (task_state m t) (record { activity = released_from app (task_state m t).activity; events = mask (events_set app m t e) })
+    activates = λ m t w h known room goes. let g = task_nests m h w t _ (activation_has m w h t (task_state m t) (task_state m t).activity refl) in record { apart = g.apart; greatest = g.greatest; task = g.task };
+    wakes = λ m t e w h known ext waits goes. let g = task_nests m h w t _ (release_has m w h t (own_events app m t e) (task_state m t) (record { activity = released_from app (task_state m t).activity; events = mask (events_set app m t e) })
         (task_state m t).activity refl waits) in record { apart = g.apart; greatest = g.greatest; task = g.task };
-    sets = λ m t e w h known waits. task_nests m h w t _ (λ live. refl);
-    clears = λ m c e w h r. nested_out _ (at_task m w h c r);
+    sets = λ m t e w h known waits sent. task_nests m h w t _ (λ live. refl);
+    clears = λ m c e w h r goes. nested_out _ (at_task m w h c r);
     ends = λ m c w h e goes. nested_out _ (at_task m w h c e);
-    chains = λ m c t w h e known room goes. nested_out _ (at_task m w h c e);
+    chains = λ m c t w h e known room goes chained. nested_out _ (at_task m w h c e);
     waits = λ m c w h e ext none goes. nested_out _ (at_task m w h c e);
     lets_out = λ m c w h e none goes. nested_out _ (at_task m w h c e);
-    returns = λ m l over o w h e f. returning_nests m w h l over o e f;
+    returns = λ m l over o w h e f goes. returning_nests m w h l over o e f;
     halts = λ m w h goes. halting_nests m w h m.processor refl;
   }
 

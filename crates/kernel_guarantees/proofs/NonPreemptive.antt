@@ -7,18 +7,32 @@ use Rattle.osek_values.specs.declared.status.Ask.TheVariants as ask
 use Rattle.oil_system.specs.declared.objects.Schedule.{TheVariants.{Non}}
 use Rattle.osek_standard.specs.declared.{app.App.{App}, block.Kind.{Kind}, state.{State.{State}, Processor.{Processor}}}
 use Rattle.osek_standard.specs.{Apps.{the_task}, States.{caller, task_of, with_source}, Internal.{kept_by}, Services.{count_up}}
-use Rattle.osek_standard.specs.{Effects.{asked_over, effect, returned_to}, Kernel.{step}, Well.{IsActive, Well}, Dispatch.{instruction, outcome_by, settled}}
+use Rattle.osek_standard.specs.{Effects.{asked_over, effect, is_schedule, returned_to}, Kernel.{step}, Well.{IsActive, Well}, Dispatch.{instruction, outcome_by, settled}}
 use Rattle.osek_standard.specs.declared.state.Processor.TheVariants as processor
 use Rattle.osek_standard.specs.declared.state.Source.TheVariants as source
 use Rattle.osek_standard.specs.declared.block.Kind.TheVariants as kind
 use Rattle.osek_standard.proofs.Callers.{moved_processor}
-use Rattle.kernel_guarantees.specs.Scheduling.{gives_up, is_shutdown, kind_at, leaves}
+use Rattle.kernel_guarantees.specs.{Instructions.{is_end, is_wait}, Scheduling.{gives_up, is_shutdown, kind_at, leaves}}
 use Rattle.kernel_guarantees.proofs.{Deeds.{AreDeeds, asked_of}, Effecting.{effect_does}, Reaching.{step_has}}
 use Rattle.kernel_guarantees.proofs.CallNames as call
 
 shutdown_leaves : (k : Kind) → is_shutdown k ≡ true → leaves k ≡ true
 shutdown_leaves (kind.Call call.ShutdownOs) e = refl
 shutdown_leaves _ e = absurd (false≢true e)
+
+end_leaves : (k : Kind) → is_end k ≡ true → leaves k ≡ true
+end_leaves (kind.Call (call.Plain call.TerminateTask)) e = refl
+end_leaves (kind.Call (call.Task call.ChainTask t)) e = refl
+end_leaves kind.TaskEnd e = refl
+end_leaves _ e = absurd (false≢true e)
+
+wait_leaves : (k : Kind) → is_wait k ≡ true → leaves k ≡ true
+wait_leaves (kind.Call (call.Mask call.WaitEvent m)) e = refl
+wait_leaves _ e = absurd (false≢true e)
+
+schedule_leaves : (k : Kind) → is_schedule k ≡ true → leaves k ≡ true
+schedule_leaves (kind.Call (call.Plain call.Schedule)) e = refl
+schedule_leaves _ e = absurd (false≢true e)
 
 module _ (app : App) (s : State) (c : TaskNo) (now : task_of s.processor ≡ Some c) (non : (the_task app c.0).schedule ≡ Non) (stays : gives_up (caller s.processor) (kind_at app s) ≡ false) where
   abbrev AsBefore : State → Type 0
@@ -60,22 +74,22 @@ module _ (app : App) (s : State) (c : TaskNo) (now : task_of s.processor ≡ Som
 
   keeping_deeds : AreDeeds app (kind_at app s) AsBefore Keeps
   keeping_deeds = record {
-    counts = λ m d q. counting m d q;
-    arms = λ m a x q. q;
+    counts = λ m d q up. counting m d q;
+    arms = λ m a x q sets. q;
     rests = λ m w q. (stays_current m q, refl);
     takes = λ m d r w q e free low. (stays_current m q, refl);
-    gives = λ m d n w q e. (stays_current m q, asks_none d (ap task_of (sym e) ∙ stays_current m q));
+    gives = λ m d n w q e goes. (stays_current m q, asks_none d (ap task_of (sym e) ∙ stays_current m q));
     routine_takes = λ m l r w q e free low. (stays_current m q, refl);
     routine_gives = λ m l n w q e. (stays_current m q, refl);
-    activates = λ m t w q known room. (stays_current m q, asks_by m m.processor q refl);
-    wakes = λ m t e w q known ext waits. (stays_current m q, asks_by m m.processor q refl);
-    sets = λ m t e w q known waits. (stays_current m q, refl);
-    clears = λ m d e w q r. (stays_current m q, refl);
-    ends = λ m d w q e goes. absurd (never_leaves m d q e goes);
-    chains = λ m d t w q e known room goes. absurd (never_leaves m d q e goes);
-    waits = λ m d w q e ext none goes. absurd (never_leaves m d q e goes);
-    lets_out = λ m d w q e none goes. absurd (never_leaves m d q e goes);
-    returns = λ m l over o w q e f. returning m l over o (ap task_of (sym e) ∙ stays_current m q);
+    activates = λ m t w q known room goes. (stays_current m q, asks_by m m.processor q refl);
+    wakes = λ m t e w q known ext waits goes. (stays_current m q, asks_by m m.processor q refl);
+    sets = λ m t e w q known waits sent. (stays_current m q, refl);
+    clears = λ m d e w q r goes. (stays_current m q, refl);
+    ends = λ m d w q e goes. absurd (never_leaves m d q e (end_leaves (kind_at app s) goes));
+    chains = λ m d t w q e known room goes chained. absurd (never_leaves m d q e (end_leaves (kind_at app s) goes));
+    waits = λ m d w q e ext none goes. absurd (never_leaves m d q e (wait_leaves (kind_at app s) goes));
+    lets_out = λ m d w q e none goes. absurd (never_leaves m d q e (schedule_leaves (kind_at app s) goes));
+    returns = λ m l over o w q e f goes. returning m l over o (ap task_of (sym e) ∙ stays_current m q);
     halts = λ m w q off. absurd (never_halts s.processor refl off);
   }
 

@@ -58,22 +58,22 @@ module _ (app : App) (s : State) (k : SourceNo) (beside : (over : Option TaskNo)
 
   routine_deeds : AreDeeds app (kind_at app s) Unmoved SameOr
   routine_deeds = record {
-    counts = λ m c q. counting m c q;
-    arms = λ m a x q. q;
+    counts = λ m c q up. counting m c q;
+    arms = λ m a x q sets. q;
     rests = λ m w q. inl q.1;
     takes = λ m c r w q e free low. inl q.1;
-    gives = λ m c n w q e. inl q.1;
+    gives = λ m c n w q e goes. inl q.1;
     routine_takes = λ m l r w q e free low. inl (by_caller m l _ q e);
     routine_gives = λ m l n w q e. inl (by_caller m l _ q e);
-    activates = λ m t w q known room. inl q.1;
-    wakes = λ m t e w q known ext waits. inl q.1;
-    sets = λ m t e w q known waits. inl q.1;
-    clears = λ m c e w q r. inl q.1;
+    activates = λ m t w q known room goes. inl q.1;
+    wakes = λ m t e w q known ext waits goes. inl q.1;
+    sets = λ m t e w q known waits sent. inl q.1;
+    clears = λ m c e w q r goes. inl q.1;
     ends = λ m c w q e goes. inl q.1;
-    chains = λ m c t w q e known room goes. inl q.1;
+    chains = λ m c t w q e known room goes chained. inl q.1;
     waits = λ m c w q e ext none goes. inl q.1;
     lets_out = λ m c w q e none goes. inl q.1;
-    returns = λ m l over o w q e f. inl (returning m l over o (beside_source m l over source.Out q e));
+    returns = λ m l over o w q e f goes. inl (returning m l over o (beside_source m l over source.Out q e));
     halts = λ m w q off. halting m m.processor refl q.1;
   }
 
@@ -106,7 +106,7 @@ module _ (app : App) (s : State) (k : SourceNo) (beside : (over : Option TaskNo)
   concluding r a (inl q) = inl (settling r (outcome_by app r a) q)
   concluding r a (inr h) = inr (subst (λ (b : Ask). (settled app r (outcome_by app r b)).processor ≡ processor.Halted) (sym h.1) (halted_kept r r.processor h.0))
 
-  instruction_leaves : (choice : Bool) → Well app s → IsActive s.processor → StaysOrHalts (instruction app s choice).state
+  pub instruction_leaves : (choice : Bool) → Well app s → IsActive s.processor → StaysOrHalts (instruction app s choice).state
   unfolding instruction
   instruction_leaves choice w active =
       let e = effect app s choice in

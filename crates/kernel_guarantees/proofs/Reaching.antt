@@ -57,6 +57,10 @@ module _ (app : App) where
     comes = longer (start app r.mode).state r.events e ∙ ap (λ (n : State). (step app n e).state) r.comes;
   }
 
+  pub after_is_reached : (s : State) (es : List Event) → IsReached app s → IsReached app (after app s es)
+  after_is_reached s [] r = r
+  after_is_reached s (e ∷ es) r = after_is_reached (step app s e).state es (step_is_reached s e r)
+
   pub start_is_reached : (mode : ModeNo) → mode.0 < length app.modes → IsReached app (start app mode).state
   start_is_reached mode known = record { mode = mode; known = known; events = []; comes = refl }
 

@@ -105,9 +105,6 @@ module _ (app : App) where
         | inr other ↦ (let under = top app s nested k over l runs began (holds_in (source_state s l) r h) other in omega (arith, low, under, held_in_level l r (source_state s l) h))
       ]
 
-      pub routine_finds_free : is_taken s r ≡ false
-      routine_finds_free = free_of_all s r nobody_holds
-
   -- so a call of GetResource is answered E_OK
   module _ (s : State) (w : Well app s) (stacked : IsStacked app s) (settled : IsSettled app s) (nested : IsNested app s) (tops : HasTops app) (k : SourceNo) (over : Option TaskNo)
       (runs : s.processor ≡ processor.Interrupted k over) (r : ResNo) (calls : IsAtGetResource app s r) (low : own_level app k.0 ≤ interrupt_ceiling app r.0) (mine : Holds s (OfRoutine k.0) r.0 → ⊥) (choice : Bool) where

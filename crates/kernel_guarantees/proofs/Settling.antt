@@ -49,7 +49,7 @@ module _ (app : App) where
   highest_inside p (Some q) false xs = fold_higher p (max p (ceiling app q.0)) xs (omega arith)
 
   -- a task that is activated or released hasn't begun thereby
-  activation_begins_none : (t : ℕ) (x : TaskState) (a : Activity) → x.activity ≡ a → is_begun app t x ≡ false → is_begun app t (activated_by app t x a) ≡ false
+  pub activation_begins_none : (t : ℕ) (x : TaskState) (a : Activity) → x.activity ≡ a → is_begun app t x ≡ false → is_begun app t (activated_by app t x a) ≡ false
   activation_begins_none t x Suspended e h = activated_fresh app t
   activation_begins_none t x (Live y) e h = ap (λ (b : Activity). is_begun app t (record x { activity = b })) (sym e) ∙ h
   activation_begins_none t x (Waiting b) e h = h
@@ -193,23 +193,23 @@ module _ (app : App) where
 
   pub settled_deeds : (k : Kind) → AreDeeds app k IsGoing SettledWith
   settled_deeds kind_of = record {
-    counts = λ m c h. (counting_settles m c h.0, counting_active m c h.1);
-    arms = λ m a x h. (record { idle = h.0.idle; at_best = h.0.at_best; bare = h.0.bare }, h.1);
+    counts = λ m c h up. (counting_settles m c h.0, counting_active m c h.1);
+    arms = λ m a x h sets. (record { idle = h.0.idle; at_best = h.0.at_best; bare = h.0.bare }, h.1);
     rests = λ m w h. h.0;
     takes = λ m c r w h e free low. taking m h.0 c (r ∷ []) e;
-    gives = λ m c n w h e. asked_running _ c e;
+    gives = λ m c n w h e goes. asked_running _ c e;
     routine_takes = λ m l r w h e free low. record { idle = h.0.idle; at_best = h.0.at_best; bare = h.0.bare };
     routine_gives = λ m l n w h e. record { idle = h.0.idle; at_best = h.0.at_best; bare = h.0.bare };
-    activates = λ m t w h known room. joins_by m h.0 t _ h.1 (activation_begins_none t (task_state m t) (task_state m t).activity refl) m.processor refl;
-    wakes = λ m t e w h known ext waits. joins_by m h.0 t _ h.1 (λ _. release_begins_none t (own_events app m t e) (task_state m t) (record { activity = released_from app (task_state m t).activity; events = mask (events_set app m t e) })
+    activates = λ m t w h known room goes. joins_by m h.0 t _ h.1 (activation_begins_none t (task_state m t) (task_state m t).activity refl) m.processor refl;
+    wakes = λ m t e w h known ext waits goes. joins_by m h.0 t _ h.1 (λ _. release_begins_none t (own_events app m t e) (task_state m t) (record { activity = released_from app (task_state m t).activity; events = mask (events_set app m t e) })
         (task_state m t).activity refl ext waits refl) m.processor refl;
-    sets = λ m t e w h known waits. alike_settles m h.0 _ refl (same_events m t _);
-    clears = λ m c e w h r. alike_settles m h.0 _ refl (same_events m c.0 _);
+    sets = λ m t e w h known waits sent. alike_settles m h.0 _ refl (same_events m t _);
+    clears = λ m c e w h r goes. alike_settles m h.0 _ refl (same_events m c.0 _);
     ends = λ m c w h e goes. refl;
-    chains = λ m c t w h e known room goes. refl;
+    chains = λ m c t w h e known room goes chained. refl;
     waits = λ m c w h e ext none goes. refl;
     lets_out = λ m c w h e none goes. (c, e);
-    returns = λ m l over o w h e f. returning_settles m h.0 l over o e;
+    returns = λ m l over o w h e f goes. returning_settles m h.0 l over o e;
     halts = λ m w h goes. halting_settles m m.processor h.1;
   }
 

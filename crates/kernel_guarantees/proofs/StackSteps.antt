@@ -39,11 +39,11 @@ pub or_cases : (b c : Bool) → (b || c) ≡ true → (b ≡ true) ⊎ (c ≡ tr
 or_cases true c e = inl refl
 or_cases false c e = inr e
 
-or_first : (b c : Bool) → b ≡ true → (b || c) ≡ true
+pub or_first : (b c : Bool) → b ≡ true → (b || c) ≡ true
 or_first true c e = refl
 or_first false c e = absurd (false≢true e)
 
-or_rest : (b c : Bool) → c ≡ true → (b || c) ≡ true
+pub or_rest : (b c : Bool) → c ≡ true → (b || c) ≡ true
 or_rest true c e = refl
 or_rest false c e = e
 
@@ -236,8 +236,8 @@ module _ (app : App) (P : State → Type 0) (k : IsKeptByStacks app P) where
 
   pub stack_deeds : (k : Kind) → AreDeeds app k P (λ r a. P r)
   stack_deeds kind_of = record {
-    counts = λ m c h. k.shrinks m _ (counts_shrink m c) h;
-    arms = λ m a x h. k.shrinks m _ (armed_holds m a x) h;
+    counts = λ m c h up. k.shrinks m _ (counts_shrink m c) h;
+    arms = λ m a x h sets. k.shrinks m _ (armed_holds m a x) h;
     rests = λ m w h. h;
     takes = λ m c r w h e free low. k.takes m _ (record {
       taker = OfTask c.0;
@@ -246,7 +246,7 @@ module _ (app : App) (P : State → Type 0) (k : IsKeptByStacks app P) where
       allowed = low;
       grows = task_grows m c.0 r;
     }) h;
-    gives = λ m c n w h e. k.shrinks m _ (task_gives m c.0 n) h;
+    gives = λ m c n w h e goes. k.shrinks m _ (task_gives m c.0 n) h;
     routine_takes = λ m l r w h e free low. k.takes m _ (record {
       taker = OfRoutine l.0;
       resource = r.0;
@@ -255,15 +255,15 @@ module _ (app : App) (P : State → Type 0) (k : IsKeptByStacks app P) where
       grows = routine_grows m l.0 r;
     }) h;
     routine_gives = λ m l n w h e. k.shrinks m _ (routine_gives m l.0 n) h;
-    activates = λ m t w h known room. k.shrinks m _ (activated_shrinks m app t) h;
-    wakes = λ m t e w h known ext waits. k.shrinks m _ (woken_shrinks m app t e) h;
-    sets = λ m t e w h known waits. k.shrinks m _ (put_task_shrinks m t _ (λ p x. x)) h;
-    clears = λ m c e w h r. k.shrinks m _ (put_task_shrinks m c.0 _ (λ p x. x)) h;
+    activates = λ m t w h known room goes. k.shrinks m _ (activated_shrinks m app t) h;
+    wakes = λ m t e w h known ext waits goes. k.shrinks m _ (woken_shrinks m app t e) h;
+    sets = λ m t e w h known waits sent. k.shrinks m _ (put_task_shrinks m t _ (λ p x. x)) h;
+    clears = λ m c e w h r goes. k.shrinks m _ (put_task_shrinks m c.0 _ (λ p x. x)) h;
     ends = λ m c w h e goes. k.shrinks m _ (ended_shrinks m app c.0) h;
-    chains = λ m c t w h e known room goes. k.shrinks (left (ended app m c.0)) _ (activated_shrinks (left (ended app m c.0)) app t) (k.shrinks m _ (ended_shrinks m app c.0) h);
+    chains = λ m c t w h e known room goes chained. k.shrinks (left (ended app m c.0)) _ (activated_shrinks (left (ended app m c.0)) app t) (k.shrinks m _ (ended_shrinks m app c.0) h);
     waits = λ m c w h e ext none goes. k.shrinks m _ (waiting_shrinks m c.0 _ refl) h;
     lets_out = λ m c w h e none goes. k.shrinks m _ (inside_shrinks m c.0 false) h;
-    returns = λ m l over o w h e f. k.shrinks m _ (returned_shrinks m app l.0 over o) h;
+    returns = λ m l over o w h e f goes. k.shrinks m _ (returned_shrinks m app l.0 over o) h;
     halts = λ m w h goes. k.shrinks m _ (halted_shrinks m m.processor) h;
   }
 

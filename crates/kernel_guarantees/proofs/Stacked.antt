@@ -15,10 +15,6 @@ and_rest : (b c : Bool) → b ≡ true → (b && c) ≡ false → c ≡ false
 and_rest true c h e = e
 and_rest false c h e = absurd (false≢true h)
 
-and_both : (b c : Bool) → b ≡ true → c ≡ true → (b && c) ≡ true
-and_both true c h e = e
-and_both false c h e = absurd (false≢true h)
-
 module _ (app : App) where
   -- the greatest of the base and some ceilings is at least each of them
   base_or_more : (p : ℕ) (resources : List ResNo) → p ≤ highest app p resources
@@ -29,7 +25,7 @@ module _ (app : App) where
     above n [] = omega arith
     above n (x ∷ xs) = omega (arith, above (max n (ceiling app x.0)) xs)
 
-  none_is_base : (p : ℕ) (resources : List ResNo) (b : Bool) → (not (nat_eq (length resources) 0) || b) ≡ false → highest app p resources ≡ p
+  pub none_is_base : (p : ℕ) (resources : List ResNo) (b : Bool) → (not (nat_eq (length resources) 0) || b) ≡ false → highest app p resources ≡ p
   unfolding highest
   none_is_base p [] b e = refl
   none_is_base p (r ∷ resources) b e =

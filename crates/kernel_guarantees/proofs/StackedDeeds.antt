@@ -21,7 +21,7 @@ use Rattle.kernel_guarantees.proofs.{CurrentChanges.{current_changes}, Deeds.{Ar
 use Rattle.kernel_guarantees.proofs.{Regrouping.{IsAlike, alike, events_keep, first_keeps, processor_keeps, regrouped}, Serving.{either_by}}
 
 -- a Live task that isn't current has a place, and one that isn't Live has none
-has_place : (app : App) (s : State) → Well app s → (u : ℕ) → is_live (task_state s u) ≡ true → is_current s u ≡ false → 0 < places s u
+pub has_place : (app : App) (s : State) → Well app s → (u : ℕ) → is_live (task_state s u) ≡ true → is_current s u ≡ false → 0 < places s u
 has_place app s w u live ready = by (task_state s u).activity refl where
   by : (a : Activity) → (task_state s u).activity ≡ a → 0 < places s u
   by Suspended e = absurd (false≢true (sym (ap is_live_activity e) ∙ live))
@@ -44,7 +44,7 @@ module _ (app : App) where
   pub activated_fresh : (t : ℕ) → is_begun app t (activated_state app t) ≡ false
   activated_fresh t = at_first (is_extended app t) (nat_eq (the_task app t).first.0 (the_task app t).first.0) (eq-eqb (the_task app t).first.0 (the_task app t).first.0 refl)
 
-  ended_fresh : (t : ℕ) (x : TaskState) (a : Activity) → is_begun app t (record x { activity = ended_by app t a }) ≡ false
+  pub ended_fresh : (t : ℕ) (x : TaskState) (a : Activity) → is_begun app t (record x { activity = ended_by app t a }) ≡ false
   ended_fresh t x Suspended = refl
   ended_fresh t x (Live y) = either_by (λ (a : Activity). is_begun app t (record x { activity = a }) ≡ false) (nat_eq y.further 0) _ _ (λ _. refl) (λ _. activated_fresh t)
   ended_fresh t x (Waiting b) = refl
@@ -152,21 +152,21 @@ module _ (app : App) where
 
   pub stacked_deeds : (k : Kind) → AreDeeds app k (IsStacked app) StackedWith
   stacked_deeds kind_of = record {
-    counts = λ m c h. counting m c h;
-    arms = λ m a x h. record { apart = h.apart; below = h.below; ahead = h.ahead };
+    counts = λ m c h up. counting m c h;
+    arms = λ m a x h sets. record { apart = h.apart; below = h.below; ahead = h.ahead };
     rests = λ m w h. (h, tt);
     takes = λ m c r w h e free low. (at_running m h c _ e, tt);
-    gives = λ m c n w h e. (at_running m h c _ e, over_leaves (the_task app c.0).schedule _);
+    gives = λ m c n w h e goes. (at_running m h c _ e, over_leaves (the_task app c.0).schedule _);
     routine_takes = λ m l r w h e free low. (record { apart = h.apart; below = h.below; ahead = h.ahead }, tt);
     routine_gives = λ m l n w h e. (record { apart = h.apart; below = h.below; ahead = h.ahead }, tt);
-    activates = λ m t w h known room. (activation_keeps app m w h t known room, asked_leaves app (caller m.processor) _);
-    wakes = λ m t e w h known ext waits. (waking_keeps app m w h t known e ext waits, asked_leaves app (caller m.processor) _);
-    sets = λ m t e w h known waits. (events_keep app m h t _, tt);
-    clears = λ m c e w h r. (at_running m h c _ r, tt);
+    activates = λ m t w h known room goes. (activation_keeps app m w h t known room, asked_leaves app (caller m.processor) _);
+    wakes = λ m t e w h known ext waits goes. (waking_keeps app m w h t known e ext waits, asked_leaves app (caller m.processor) _);
+    sets = λ m t e w h known waits sent. (events_keep app m h t _, tt);
+    clears = λ m c e w h r goes. (at_running m h c _ r, tt);
     ends = λ m c w h e goes. (ending m h c w e, refl);
-    chains = λ m c t w h e known room goes. (activation_keeps app (left (ended app m c.0)) (ended_keeps app m c w e) (ending m h c w e) t known room, refl);
+    chains = λ m c t w h e known room goes chained. (activation_keeps app (left (ended app m c.0)) (ended_keeps app m c w e) (ending m h c w e) t known room, refl);
     waits = λ m c w h e ext none goes. (leaving m h c _ w e refl, refl);
     lets_out = λ m c w h e none goes. (at_running m h c _ e, tt);
-    returns = λ m l over o w h e f. returning m h l over o (ap task_of e);
+    returns = λ m l over o w h e f goes. returning m h l over o (ap task_of e);
     halts = λ m w h goes. (halting m h m.processor refl, tt);
   }

@@ -66,11 +66,15 @@ module _ (app : App) (s : State) (stacked : IsStacked app s) where
   settled_stacks ask.Free h = any_by (best app s) refl h
 
 module _ (app : App) where
+  -- after the effect too, before the outcome
+  pub effect_stacks : (s : State) (choice : Bool) → Well app s → IsActive s.processor → IsStacked app s → StackedWith app (effect app s choice).state (effect app s choice).ask
+  effect_stacks s choice w active h = effect_does app (IsStacked app) (StackedWith app) s (stacked_deeds app (kind_at app s)) w active h (λ to. moving app s h to s.processor refl) choice
+
   instruction_stacks : (s : State) (choice : Bool) → Well app s → IsActive s.processor → IsStacked app s → IsStacked app (instruction app s choice).state
   unfolding instruction
   instruction_stacks s choice w active h =
       let e = effect app s choice in
-      let does = effect_does app (IsStacked app) (StackedWith app) s (stacked_deeds app (kind_at app s)) w active h (λ to. moving app s h to s.processor refl) choice in
+      let does = effect_stacks s choice w active h in
       settled_stacks app e.state does.0 e.ask does.1
 
   step_stacks : (s : State) (e : Event) → Well app s → IsStacked app s → IsStacked app (step app s e).state
@@ -82,7 +86,7 @@ module _ (app : App) where
   started_fresh t false = refl
 
   -- at the start no task has begun
-  none_underway : (mode : ModeNo) (t : ℕ) → is_underway app (initial app mode) t ≡ false
+  pub none_underway : (mode : ModeNo) (t : ℕ) → is_underway app (initial app mode) t ≡ false
   none_underway mode t = elim (cases_lt t (length app.tasks)) [
     | inl known ↦ ap (is_begun app t) (get_or-map (started_task mode.0) app.tasks t no_task suspended known) ∙ started_fresh t (has_bit (the_task app t).autostart mode.0)
     | inr past ↦ ap (is_begun app t) (get_or_past (map (started_task mode.0) app.tasks) t suspended (subst (λ (n : ℕ). n ≤ t) (sym (length-map app.tasks (started_task mode.0))) past))

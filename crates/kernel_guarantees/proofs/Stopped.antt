@@ -47,22 +47,22 @@ module _ (app : App) (s : State) where
 
   latch_deeds : AreDeeds app (kind_at app s) LatchedAsBefore (λ r a. LatchedAsBefore r)
   latch_deeds = record {
-    counts = λ m c q. counting m c q;
-    arms = λ m a x q. q;
+    counts = λ m c q up. counting m c q;
+    arms = λ m a x q sets. q;
     rests = λ m w q. q;
     takes = λ m c r w q e free low. q;
-    gives = λ m c n w q e. q;
+    gives = λ m c n w q e goes. q;
     routine_takes = λ m l r w q e free low. q;
     routine_gives = λ m l n w q e. q;
-    activates = λ m t w q known room. q;
-    wakes = λ m t e w q known ext waits. q;
-    sets = λ m t e w q known waits. q;
-    clears = λ m c e w q r. q;
+    activates = λ m t w q known room goes. q;
+    wakes = λ m t e w q known ext waits goes. q;
+    sets = λ m t e w q known waits sent. q;
+    clears = λ m c e w q r goes. q;
     ends = λ m c w q e goes. q;
-    chains = λ m c t w q e known room goes. q;
+    chains = λ m c t w q e known room goes chained. q;
     waits = λ m c w q e ext none goes. q;
     lets_out = λ m c w q e none goes. q;
-    returns = λ m l over o w q e f. returning m l over o q;
+    returns = λ m l over o w q e f goes. returning m l over o q;
     halts = λ m w q off. halting m m.processor q;
   }
 

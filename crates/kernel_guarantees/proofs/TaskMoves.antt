@@ -4,10 +4,10 @@ use Rattle.std.proofs.lemmas.Bool.{false≢true}
 use Rattle.osek_values.specs.declared.{event.Event.{Event}, numbers.{ResNo.{ResNo}, TaskNo.{TaskNo}}}
 use Rattle.osek_standard.specs.declared.{app.App.{App}, state.State.{State}}
 use Rattle.osek_standard.specs.declared.task_state.{TaskState.{TaskState}, Place.{Place}, Activity.{Activity, TheVariants.{Suspended, Live, Waiting}}}
-use Rattle.osek_standard.specs.{States.{task_state}, Internal.{inside_as}, Services.{activated_by, released_from, waits_in}, Kernel.{step}, Well.{Well}}
+use Rattle.osek_standard.specs.{States.{task_state}, Internal.{inside_as}, Services.{activated_by, released_from, waits_in}, Kernel.{step}, Dispatch.{instruction}, Well.{IsActive, Well}}
 use Rattle.osek_standard.specs.declared.state.Processor.TheVariants as processor
 use Rattle.kernel_guarantees.specs.TaskModel.{IsStandingAs, MayBecome}
-use Rattle.kernel_guarantees.proofs.Others.{IsByOthers, step_by_others}
+use Rattle.kernel_guarantees.proofs.Others.{IsByOthers, instruction_leaves, step_by_others}
 
 module _ (app : App) where
   stays_as : (t : ℕ) (a : Activity) → MayBecome app t a a
@@ -48,3 +48,7 @@ module _ (app : App) where
 
   pub step_leaves : (s : State) (u : TaskNo) → (s.processor ≡ processor.Running u → ⊥) → (e : Event) → Well app s → MayBecome app u.0 (task_state s u.0).activity (task_state (step app s e).state u.0).activity
   step_leaves s u beside e w = step_by_others app (λ t x y. MayBecome app t x.activity y.activity) moves_by_others s u beside e w
+
+  pub instruction_stands : (s : State) (u : TaskNo) → (s.processor ≡ processor.Running u → ⊥) → (choice : Bool) → Well app s → IsActive s.processor
+      → MayBecome app u.0 (task_state s u.0).activity (task_state (instruction app s choice).state u.0).activity
+  instruction_stands s u beside choice w active = instruction_leaves app (λ t x y. MayBecome app t x.activity y.activity) moves_by_others s u beside choice w active

@@ -1,8 +1,17 @@
 pub mod Underway
 pub mod Reached
+pub mod Locks
+pub mod Alarms
+pub mod Events
+pub mod HookNotes
 pub mod Resources
 pub mod Conditions
 pub mod Scheduling
 pub mod Nesting
 pub mod TaskModel
 pub mod Awaiting
+pub mod Properties
+pub mod Guarantees
+pub mod Instructions
+pub mod Readiness
+pub mod Activations

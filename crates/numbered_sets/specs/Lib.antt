@@ -1,4 +1,5 @@
 pub mod Passing
+pub mod Judging
 pub mod FlatSets
 pub mod NumberedEntries
 pub mod Numbers

@@ -5,6 +5,7 @@
 mod column;
 mod counts;
 mod flat_sets;
+mod judged;
 pub mod laws;
 mod loads;
 mod moving;

@@ -21,60 +21,10 @@ impl SeenValues {
     ghost use Rattle.std.specs.Prelude.{◌≡◌, ◌<◌, length, slice_set, IfOk, OnOk, OnErr, IfSome};
     ghost use Rattle.abstract_state.specs.{declared.value.PartValue.{PartValue}, Tables.{is_member}};
     ghost use Rattle.flow_model.specs.declared.test.Test.TheVariants as Test;
-    ghost use Rattle.numbered_sets.specs.{Passing.{IsJudged, ArePassing, IsNumberAlone, IsSifted}, NumberedEntries.{numbers_at}, Views.{plain_set}};
+    ghost use Rattle.numbered_sets.specs.{Passing.{IsJudged, IsNumberAlone, IsSifted}, NumberedEntries.{numbers_at}, Views.{plain_set}};
 
-    /// Leaves out the numbers of a component's values that don't pass a test.
-    pub fn keep_passing(
-        &self,
-        alloc: Global,
-        test: &Test,
-        component: usize,
-        entry: &mut NumberedEntry,
-    ) -> Result<(), Memory>
-        requires { component < length entry.old.sets }
-        ensures passing { OnOk result (IsSifted self.now.values test.now (numbers_at entry.old component) (numbers_at entry.new component)) }
-        ensures others { OnOk result (entry.new.sets ≡ slice_set entry.old.sets component (numbers_at entry.new component)) }
-        ensures err { OnErr result (entry.new ≡ entry.old) }
-    {
-        match test {
-            Test::Is(value) => self.keep_value(alloc, value, component, entry),
-            Test::IsNot(value) => self.leave_value(alloc, value, component, entry),
-            _ => {
-                let passing = self.passing(alloc, test, component, entry)?;
-                entry.keep(component, &passing);
-                Ok(())
-            }
-        }
-    }
-
-    // the numbers of a component's set whose values pass a test
-    fn passing(
-        &self,
-        alloc: Global,
-        test: &Test,
-        component: usize,
-        entry: &NumberedEntry,
-    ) -> Result<NumberedSet, Memory>
-        requires { component < length entry.now.sets }
-        ensures { IfOk result (ArePassing self.now.values test.now (numbers_at entry.now component)) }
-    {
-        let mut passing = NumberedSet::new(alloc, self.domain());
-        let count = self.len();
-        let mut last = None;
-        let mut number = entry.next(component, 0, count);
-        while number < count {
-            let judged = self.judge(test, number, last);
-            if judged.passes {
-                passing.insert(number)?;
-            }
-            last = Some(judged);
-            number = entry.next(component, number + 1, count);
-        }
-        Ok(passing)
-    }
-
-    // Whether a value passes a test. What a task holds tells it mostly, and then one that holds the same and was judged last tells it too.
-    fn judge(&self, test: &Test, number: usize, last: Option<Judged>) -> Judged
+    /// Whether a value passes a test. What a task holds tells it mostly, and then one that holds the same and was judged last tells it too.
+    pub fn judge(&self, test: &Test, number: usize, last: Option<Judged>) -> Judged
         requires given { number < length self.now.values }
         requires last { IfSome last (IsJudged self.now.values test.now) }
         ensures number { result.number ≡ number }
@@ -96,8 +46,8 @@ impl SeenValues {
         }
     }
 
-    // leaves out all numbers of a component but that of a value
-    fn keep_value(
+    /// Leaves out all numbers of a component but that of a value.
+    pub fn keep_value(
         &self,
         alloc: Global,
         value: &PartValue,
@@ -114,8 +64,8 @@ impl SeenValues {
         Ok(())
     }
 
-    // leaves out the number of a value from those of a component
-    fn leave_value(
+    /// Leaves out the number of a value from those of a component.
+    pub fn leave_value(
         &self,
         alloc: Global,
         value: &PartValue,

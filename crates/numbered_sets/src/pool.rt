@@ -6,7 +6,7 @@ use crate::numbered_set::NumberedSet;
 use crate::shared_values::SharedValues;
 use abstract_state::{Domain, PartValue};
 use flow_model::{Test, Update};
-use osek_values::{Memory, Seq};
+use osek_values::{BlockNo, Memory, Seq};
 use std::alloc::Global;
 use std::marker::Model;
 
@@ -28,7 +28,7 @@ impl Model for Pool {
 impl Pool {
     ghost use Rattle.std.specs.Prelude.{ℕ, ◌≡◌, ◌<◌, length, map, slice_set, IfOk, OnOk, OnErr, IfSome, IsTrue, All};
     ghost use Rattle.abstract_state.specs.{declared.value.PartValue.{PartValue}, Domains.{IsWithin, domain_size}, Tables.{is_member}};
-    ghost use Rattle.flow_model.specs.Tests.{updated};
+    ghost use Rattle.flow_model.specs.{Tests.{updated}, Values.{block_of_part}};
     ghost use Rattle.numbered_sets.specs.{Passing.{IsSifted}, Pools.{no_values, value_seen, seen_at, values_at, domain_at, AreValues, IsNumberOf, IsBeside, IsLonger}};
     ghost use Rattle.numbered_sets.specs.{Numbers.{has_number}, NumberedEntries.{numbers_at}, Views.{plain_set}, Made.{AreMade}};
 
@@ -114,6 +114,15 @@ impl Pool {
         self.components.at(component).seen().value(number)
     }
 
+    /// The block of a component's value with a number; 0 where it has none.
+    pub fn block(&self, component: usize, number: usize) -> BlockNo
+        requires known { component < length self.now }
+        requires given { number < length (values_at self.now component) }
+        ensures { (v : PartValue) → IsNumberOf (values_at self.now component) v number → result ≡ block_of_part v }
+    {
+        self.components.at(component).seen().block(number)
+    }
+
     /// The number of what a component's value would be at the block before its own, if that was seen.
     pub fn beside(&self, component: usize, number: usize) -> Option<usize>
         requires known { component < length self.now }
@@ -134,23 +143,23 @@ impl Pool {
             .has_value(value, component, entry)
     }
 
-    /// Leaves out the numbers of a component's values that don't pass a test.
+    /// Leaves out the numbers of a component's values that don't pass a test. What passes is kept, so that a value is asked once.
     pub fn keep_passing(
-        &self,
+        &mut self,
         alloc: Global,
         component: usize,
         test: &Test,
         entry: &mut NumberedEntry,
     ) -> Result<(), Memory>
-        requires known { component < length self.now }
+        requires known { component < length self.old }
         requires set { component < length entry.old.sets }
-        ensures passing { OnOk result (IsSifted (values_at self.now component) test.now (numbers_at entry.old component) (numbers_at entry.new component)) }
+        ensures same { self.new ≡ self.old }
+        ensures passing { OnOk result (IsSifted (values_at self.old component) test.now (numbers_at entry.old component) (numbers_at entry.new component)) }
         ensures others { OnOk result (entry.new.sets ≡ slice_set entry.old.sets component (numbers_at entry.new component)) }
         ensures err { OnErr result (entry.new ≡ entry.old) }
     {
         self.components
-            .at(component)
-            .seen()
+            .at_mut(component)
             .keep_passing(alloc, test, component, entry)
     }
 
@@ -160,7 +169,7 @@ impl Pool {
     {
         let mut components = Seq::new(alloc);
         for seen in self.components.as_slice() {
-            components.push(seen.share()?)?;
+            components.push(seen.share(alloc)?)?;
         }
         Ok(Pool { components })
     }

@@ -50,7 +50,7 @@ impl Clone for SeenValues {
 impl SeenValues {
     ghost use Rattle.std.specs.{Prelude.{◌≡◌, ◌<◌, false, length, IfOk, OnOk, OnErr, IfSome, IfNone}, List.{list_any}, Bool.{OnTrue}};
     ghost use Rattle.abstract_state.specs.{declared.value.PartValue.{PartValue}, Domains.{IsWithin, domain_size}, ValueOrder.{same_part}};
-    ghost use Rattle.flow_model.specs.{declared.change.Update.TheVariants.{Block}, Tests.{updated}};
+    ghost use Rattle.flow_model.specs.{declared.change.Update.TheVariants.{Block}, Tests.{updated}, Values.{block_of_part}};
     ghost use Rattle.numbered_sets.specs.{Pools.{no_values, value_seen, AreValues, IsNumberOf, IsBeside}, Slots.{IsBlockColumn}};
 
     /// No value yet.
@@ -84,6 +84,14 @@ impl SeenValues {
         ensures { IsNumberOf self.now.values result number }
     {
         value_at(self.domain, &self.loads, self.slots.at(number))
+    }
+
+    /// The block of the value with a number; 0 where it has none.
+    pub fn block(&self, number: usize) -> BlockNo
+        requires { number < length self.now.values }
+        ensures { (v : PartValue) → IsNumberOf self.now.values v number → result ≡ block_of_part v }
+    {
+        block_in(self.domain, self.slots.at(number))
     }
 
     /// The number of a value, if it has one.

@@ -1,41 +1,48 @@
 //! The values of one domain that were seen, which pools may share.
 ghost use Rattle.std.specs.Prelude.{◌≡◌};
 
+use crate::judged::JudgedTests;
+use crate::numbered_entry::NumberedEntry;
 use crate::numbered_set::NumberedSet;
 use crate::seen_values::SeenValues;
 use abstract_state::{Domain, PartValue};
-use flow_model::Update;
+use flow_model::{Test, Update};
 use osek_values::Memory;
 use std::alloc::Global;
 use std::marker::Model;
 use std::rc::Rc;
 
 /// Values by number, which several pools may have. One that is new to a pool comes into values of its own: a copy, where others have them too.
+/// What tests they passed is kept beside them, for each pool by itself.
 #[derive(Drop)]
 pub struct SharedValues {
     seen: Rc<SeenValues>,
+    judged: JudgedTests,
 }
 
 impl Model for SharedValues {
-    ghost use Rattle.numbered_sets.specs.Pools.{Values};
+    ghost use Rattle.numbered_sets.specs.{Judging.{AreJudgedTests}, Pools.{Values}};
 
     ghost Value = { Values };
 
     ghost view = { λ s. s.seen.value };
+
+    ghost invariant = { λ s. AreJudgedTests s.seen.value.values s.judged.tests };
 }
 
 impl SharedValues {
-    ghost use Rattle.std.specs.Prelude.{ℕ, ◌≡◌, ◌<◌, length, IfOk, OnOk, OnErr, IsTrue};
+    ghost use Rattle.std.specs.Prelude.{ℕ, ◌≡◌, ◌<◌, length, slice_set, IfOk, OnOk, OnErr, IsTrue};
     ghost use Rattle.abstract_state.specs.{declared.value.PartValue.{PartValue}, Domains.{IsWithin, domain_size}};
     ghost use Rattle.flow_model.specs.Tests.{updated};
-    ghost use Rattle.numbered_sets.specs.{Numbers.{has_number}, Pools.{no_values, value_seen, IsNumberOf, IsExtended}, Made.{AreMade}};
+    ghost use Rattle.numbered_sets.specs.{Numbers.{has_number}, NumberedEntries.{numbers_at}, Passing.{IsSifted}, Pools.{no_values, value_seen, IsNumberOf, IsExtended}, Made.{AreMade}};
 
     /// No value yet.
     pub fn new(alloc: Global, domain: Domain) -> Result<SharedValues, Memory>
         ensures { IfOk result (λ values. values ≡ no_values domain) }
     {
         let seen = Rc::new(alloc, SeenValues::new(alloc, domain))?;
-        Ok(SharedValues { seen })
+        let judged = JudgedTests::new(alloc);
+        Ok(SharedValues { seen, judged })
     }
 
     /// The values.
@@ -93,6 +100,31 @@ impl SharedValues {
         own.numbers_after(alloc, numbers, update)
     }
 
+    /// Leaves out the numbers of a component's values that don't pass a test.
+    pub fn keep_passing(
+        &mut self,
+        alloc: Global,
+        test: &Test,
+        component: usize,
+        entry: &mut NumberedEntry,
+    ) -> Result<(), Memory>
+        requires { component < length entry.old.sets }
+        ensures same { self.new ≡ self.old }
+        ensures passing { OnOk result (IsSifted self.old.values test.now (numbers_at entry.old component) (numbers_at entry.new component)) }
+        ensures others { OnOk result (entry.new.sets ≡ slice_set entry.old.sets component (numbers_at entry.new component)) }
+        ensures err { OnErr result (entry.new ≡ entry.old) }
+    {
+        match test {
+            Test::Is(value) => self.seen.keep_value(alloc, value, component, entry),
+            Test::IsNot(value) => self.seen.leave_value(alloc, value, component, entry),
+            _ => {
+                let place = self.judged.ask(alloc, &self.seen, test)?;
+                entry.keep(component, self.judged.passing(place));
+                Ok(())
+            }
+        }
+    }
+
     // Whether another pool has them too. Then a value is looked up first, so that none that is there makes a copy.
     fn is_shared(&self) -> bool {
         Rc::strong_count(&self.seen) > 1
@@ -107,10 +139,11 @@ impl SharedValues {
     }
 
     /// The same values for another pool. None is copied.
-    pub fn share(&self) -> Result<SharedValues, Memory>
+    pub fn share(&self, alloc: Global) -> Result<SharedValues, Memory>
         ensures { IfOk result (λ values. values ≡ self.now) }
     {
         let seen = self.seen.clone()?;
-        Ok(SharedValues { seen })
+        let judged = JudgedTests::new(alloc);
+        Ok(SharedValues { seen, judged })
     }
 }

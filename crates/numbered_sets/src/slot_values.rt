@@ -1,8 +1,9 @@
 //! The slots of a domain's values, by arithmetic.
 ghost use Rattle.std.specs.Prelude.{ℕ, List, ◌≡◌, ◌≢◌, ◌<◌, ◌≤◌, ◌^◌, IfOk, IfSome, IfNone};
 ghost use Rattle.osek_standard.specs.Validity.{IsAmong};
-ghost use Rattle.flow_model.specs.{declared.change.Update.TheVariants.{Block}, Tests.{updated}};
+ghost use Rattle.flow_model.specs.{declared.change.Update.TheVariants.{Block}, Tests.{updated}, Values.{block_of_part}};
 ghost use Rattle.abstract_state.specs.declared.value.{Val.TheVariants.{Live}, SourceVal.TheVariants.{In}};
+ghost use Rattle.numbered_sets.specs.declared.loads.Load.{Load};
 ghost use Rattle.numbered_sets.specs.Slots.{val_in, value_in, source_in, blocks_of, IsTaskSlot, IsSourceSlot, IsSlot, IsSlotOf, IsTaskSlotOf, IsSourceSlotOf, IsSlotInRow, AreMoreLoads, slot_width, IsBlockColumn, IsSlotPlace};
 
 use crate::loads::{Load, Loads};
@@ -227,9 +228,10 @@ pub fn slot_place(domain: Domain, slot: usize) -> Option<SlotPlace>
     })
 }
 
-/// The block of a slot, if it has one; what it gives is tried, and no more.
+/// The block of a slot's value; 0 where it has none.
 pub fn block_in(domain: Domain, slot: usize) -> BlockNo
-    ensures { result.0 < 2 ^ 16 }
+    ensures small { result.0 < 2 ^ 16 }
+    ensures block { (loads : List Load) → IsSlot domain loads slot → result ≡ block_of_part (value_in domain loads slot) }
 {
     match blocks(domain) {
         Some((first, count)) if slot > 0 && count > 0 => {

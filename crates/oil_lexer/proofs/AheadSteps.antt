@@ -1,10 +1,10 @@
 -- The tokens that are ahead, behind one more piece.
-use Rattle.std.proofs.Common.{◌≡◌, ℕ, ◌+◌, List, [], ◌∷◌, take, drop, refl, sym, subst, ap}
+use Rattle.std.proofs.Common.{◌≡◌, ℕ, ◌+◌, List, [], ◌∷◌, ◌++◌, take, drop, refl, sym, subst, ap}
 use Rattle.std.specs.Prelude.{◌≢◌}
 use mathlib.Core.Logic.{∥∥₁_elim, ∥∥₁_map}
 use Rattle.osek_values.specs.declared.refusal.LexRule.{LexRule}
 use Rattle.oil_lexer.specs.declared.token.{TokenKind.{TokenKind}, Piece.{Piece, TheVariants.{Gap, Whole}}, Token.{Token}}
-use Rattle.oil_lexer.specs.{Ahead.{AreAhead, AreOnly, Ahead, Ahead-prop, tokens_set}, Pieces.{IsLongest, Fits, Breaks}, Text.{none, gap, token, token_of, line_ends}}
+use Rattle.oil_lexer.specs.{Ahead.{AreAhead, AreOnly, Ahead, Ahead-prop, tokens_set}, Pieces.{IsLongest, Breaks}, Fronts.{ArePieces}, Text.{Parts, none, gap, token, token_of, line_ends}}
 use Rattle.oil_lexer.proofs.Unique.{same_length, same_piece, stops_end, stops_broken, unique, after}
 
 -- no others are ahead
@@ -14,32 +14,31 @@ only (last, parts) other (last', parts') = (unique stops_end stops_end parts par
 pub of_parts : {line : ℕ} {bytes : List ℕ} (tokens : List Token) → AreAhead line bytes tokens → Ahead line bytes
 of_parts tokens are = (tokens, record { ahead = ∣ are ∣₁; only = only are })
 
--- behind a blank or a comment the same tokens are ahead
-pub behind_gap : {line : ℕ} {bytes : List ℕ} {tokens : List Token} (n : ℕ) → IsLongest Gap bytes n → AreAhead line bytes tokens → AreAhead (line + line_ends (take n bytes)) (drop n bytes) tokens
-behind_gap n longest (last, none) = absurd (stops_end Gap n longest tt)
-behind_gap {bytes = bytes} n longest (last, gap m first more) = (last, after _ _ _ _ n m _ (same_length bytes Gap Gap n m longest first) more)
-behind_gap {bytes = bytes} n longest (last, token kind m first fits more) = absurd (let e = same_piece bytes Gap (Whole kind) n m longest first in cc)
-
-pub past_gap : {line : ℕ} {bytes : List ℕ} {tokens : List Token} (piece : Piece) (n : ℕ) → ((kind : TokenKind) → piece ≡ Whole kind → ⊥) → IsLongest piece bytes n → ∥ AreAhead line bytes tokens ∥₁ → ∥ AreAhead (line + line_ends (take n bytes)) (drop n bytes) tokens ∥₁
-past_gap Gap n other longest are = ∥∥₁_map are (behind_gap n longest)
-past_gap (Whole kind) n other longest are = absurd (other kind refl)
-
--- behind a token are all but the first
-pub record Behind (line : ℕ) (bytes : List ℕ) (kind : TokenKind) (n : ℕ) (tokens : List Token) : Type 0 where
+-- behind what is parted the other tokens are ahead
+pub record Behind (last : ℕ) (rest : List ℕ) (done tokens : List Token) : Type 0 where
   pub more : List Token
-  pub parts : tokens ≡ token_of kind line ∷ more
-  pub ahead : AreAhead (line + line_ends (take n bytes)) (drop n bytes) more
+  pub parts : tokens ≡ done ++ more
+  pub ahead : AreAhead last rest more
 
-pub behind_token : {line : ℕ} {bytes : List ℕ} {tokens : List Token} (kind : TokenKind) (n : ℕ) → IsLongest (Whole kind) bytes n → Fits (Whole kind) → AreAhead line bytes tokens → Behind line bytes kind n tokens
-behind_token kind n longest fits (last, none) = absurd (stops_end (Whole kind) n longest fits)
-behind_token {bytes = bytes} kind n longest fits (last, gap m first more) = absurd (let e = same_piece bytes (Whole kind) Gap n m longest first in cc)
-behind_token {line = line} {bytes = bytes} kind n longest fits (last, token {tokens = others} other m first small more) =
+pub behind_parts : {last : ℕ} {rest : List ℕ} {line : ℕ} {bytes : List ℕ} {done tokens : List Token} → Parts last rest line bytes done → AreAhead line bytes tokens → Behind last rest done tokens
+behind_parts {tokens = tokens} none are = record { more = tokens; parts = refl; ahead = are }
+behind_parts (gap n longest parts) (last, none) = absurd (stops_end Gap n longest tt)
+behind_parts {bytes = bytes} (gap n longest parts) (last, gap m first more) = behind_parts parts (last, after _ _ _ _ n m _ (same_length bytes Gap Gap n m longest first) more)
+behind_parts {bytes = bytes} (gap n longest parts) (last, token kind m first fits more) = absurd (let e = same_piece bytes Gap (Whole kind) n m longest first in cc)
+behind_parts (token kind n longest fits parts) (last, none) = absurd (stops_end (Whole kind) n longest fits)
+behind_parts {bytes = bytes} (token kind n longest fits parts) (last, gap m first more) = absurd (let e = same_piece bytes (Whole kind) Gap n m longest first in cc)
+behind_parts {line = line} {bytes = bytes} (token kind n longest fits parts) (last, token other m first small more) =
     let same : kind ≡ other = let e = same_piece bytes (Whole kind) (Whole other) n m longest first in cc in
-    record {
-      more = others;
-      parts = subst (λ (k : TokenKind). token_of other line ∷ others ≡ token_of k line ∷ others) (sym same) refl;
-      ahead = (last, after _ _ _ _ n m _ (same_length bytes (Whole kind) (Whole other) n m longest first) more);
-    }
+    let b = behind_parts parts (last, after _ _ _ _ n m _ (same_length bytes (Whole kind) (Whole other) n m longest first) more) in
+    record { more = b.more; parts = let p = b.parts in cc; ahead = b.ahead }
+
+-- behind blanks and comments the same tokens are ahead
+pub past_gap : {line : ℕ} {bytes : List ℕ} {tokens : List Token} (piece : Piece) (n : ℕ) → ((kind : TokenKind) → piece ≡ Whole kind → ⊥) → ArePieces piece bytes n → ∥ AreAhead line bytes tokens ∥₁ → ∥ AreAhead (line + line_ends (take n bytes)) (drop n bytes) tokens ∥₁
+past_gap {line = line} {bytes = bytes} {tokens = tokens} Gap n other first are = ∥∥₁_map are same
+  where
+    same : AreAhead line bytes tokens → AreAhead (line + line_ends (take n bytes)) (drop n bytes) tokens
+    same a = let b = behind_parts (first.parts line) a in subst (λ (ts : List Token). AreAhead (line + line_ends (take n bytes)) (drop n bytes) ts) (sym b.parts) b.ahead
+past_gap (Whole kind) n other first are = absurd (other kind refl)
 
 at_end : {line : ℕ} {bytes : List ℕ} {tokens : List Token} → bytes ≡ [] → AreAhead line bytes tokens → tokens ≡ []
 at_end e (last, none) = refl
@@ -65,12 +64,15 @@ same_tokens {line = line} {bytes = bytes} {tokens = tokens} is a = ap (λ (x : A
 pub are_of : {line : ℕ} {bytes : List ℕ} {tokens : List Token} → AreOnly line bytes tokens → (given : List Token) → AreAhead line bytes given → AreAhead line bytes tokens
 are_of {line = line} {bytes = bytes} is given are = subst (λ (ts : List Token). AreAhead line bytes ts) (sym (is.only given are)) are
 
-module _ {line : ℕ} {bytes : List ℕ} {tokens : List Token} (kind : TokenKind) (n : ℕ) (longest : IsLongest (Whole kind) bytes n) (fits : Fits (Whole kind)) (are : ∥ AreAhead line bytes tokens ∥₁) {next : ℕ} {rest : List ℕ} (lines : next ≡ line + line_ends (take n bytes)) (rests : rest ≡ drop n bytes) where
-  more_ahead : (b : Behind line bytes kind n tokens) → AreAhead next rest b.more
+module _ {line : ℕ} {bytes : List ℕ} {tokens : List Token} (kind : TokenKind) (n : ℕ) (first : ArePieces (Whole kind) bytes n) (are : ∥ AreAhead line bytes tokens ∥₁) {next : ℕ} {rest : List ℕ} (lines : next ≡ line + line_ends (take n bytes)) (rests : rest ≡ drop n bytes) where
+  abbrev IsBehind : Type 0
+  IsBehind = Behind (line + line_ends (take n bytes)) (drop n bytes) (token_of kind line ∷ []) tokens
+
+  more_ahead : (b : IsBehind) → AreAhead next rest b.more
   more_ahead b = rw (lines, rests) b.ahead
 
   rest_ahead : AreAhead line bytes tokens → AreAhead next rest (drop 1 tokens)
-  rest_ahead a = let b = behind_token kind n longest fits a in rw b.parts (more_ahead b)
+  rest_ahead a = let b = behind_parts (first.parts line) a in rw b.parts (more_ahead b)
 
   -- the tokens behind the first
   pub behind : Ahead next rest
@@ -78,7 +80,7 @@ module _ {line : ℕ} {bytes : List ℕ} {tokens : List Token} (kind : TokenKind
 
   -- and the first before them
   pub with_first : {back : List Token} → AreOnly next rest back → tokens ≡ token_of kind line ∷ back
-  with_first {back = back} is = ∥∥₁_elim are (tokens_set _ _) (λ a. first_of (behind_token kind n longest fits a))
+  with_first {back = back} is = ∥∥₁_elim are (tokens_set _ _) (λ a. first_of (behind_parts (first.parts line) a))
     where
-      first_of : Behind line bytes kind n tokens → tokens ≡ token_of kind line ∷ back
+      first_of : IsBehind → tokens ≡ token_of kind line ∷ back
       first_of b = let e = is.only b.more (more_ahead b) in let p = b.parts in cc

@@ -48,8 +48,11 @@ within bytes i b e some = ⊎_elim (λ lt. lt) (λ le. absurd (let past : slice_
 one_byte : (class : Class) (piece : Piece) (bytes : List ℕ) → class_of (slice_index bytes 0) ≡ class → 0 < length bytes → IsPiece piece bytes 1 → ((other : Piece) (m : ℕ) → IsPiece other bytes m → m ≡ 1) → IsLongest piece bytes 1
 one_byte class piece bytes e nonempty is one = record { piece_is = is; longest = λ other m lt p. omega (arith, lt, one other m p) }
 
+pub blank_longest : (bytes : List ℕ) → class_of (slice_index bytes 0) ≡ Blank → 0 < length bytes → IsLongest Gap bytes 1
+blank_longest bytes e nonempty = one_byte Blank Gap bytes e nonempty (to_piece Blank Gap bytes 1 e (omega arith) nonempty (refl, refl)) (λ other m p. (is_of Blank other bytes m e p).1)
+
 blank : (bytes : List ℕ) → class_of (slice_index bytes 0) ≡ Blank → 0 < length bytes → Front bytes
-blank bytes e nonempty = stands Gap 1 (one_byte Blank Gap bytes e nonempty (to_piece Blank Gap bytes 1 e (omega arith) nonempty (refl, refl)) (λ other m p. (is_of Blank other bytes m e p).1)) tt
+blank bytes e nonempty = stands Gap 1 (blank_longest bytes e nonempty) tt
 
 single : (mark : _) (bytes : List ℕ) → class_of (slice_index bytes 0) ≡ Single mark → 0 < length bytes → Front bytes
 single mark bytes e nonempty =

@@ -2,7 +2,7 @@
 -- project's profile).
 use Rattle.std.specs.{Prelude.{ℕ, ◌<◌, ◌≤◌, Bool, not, ◌&&◌, ◌||◌, ◌==◌, if◌then◌else◌, List, IsTrue, slice_index, Option, Some, None}, Char.{is_ascii_hexdigit}}
 use Rattle.osek_values.specs.Names.{is_letter, is_digit, is_name_byte}
-use Rattle.oil_lexer.specs.declared.classes.{Class.{Class, TheVariants.{Blank, Letter, Digit, Quote, Slash, Single, Nothing}}, ByteSet.{ByteSet, TheVariants.{NameBytes, Digits, HexDigits, TextBytes, LineBytes}}}
+use Rattle.oil_lexer.specs.declared.classes.{Class.{Class, TheVariants.{Blank, Letter, Digit, Quote, Slash, Single, Nothing}}, ByteSet.{ByteSet, TheVariants.{Blanks, NameBytes, Digits, HexDigits, TextBytes, LineBytes}}}
 use Rattle.oil_lexer.specs.declared.token.Mark.{Mark, TheVariants.{OpenBrace, CloseBrace, OpenParen, CloseParen, OpenBracket, CloseBracket, Equals, Semicolon, Colon, Comma, Period, Question, Bar, Plus, Minus}}
 
 -- space, tab, CR, LF and form feed
@@ -43,9 +43,10 @@ class_of b =
     else (if b == 47 then Slash
     else class_of_mark (mark_of b)))))
 
--- the bytes that a name, a number, a text and a comment of one line go on with; a text and such a comment hold any
+-- the blanks, and the bytes that a name, a number, a text and a comment of one line go on with; a text and such a comment hold any
 -- byte but LF, and a text no quotation mark
 abbrev pub is_in : ByteSet → ℕ → Bool
+is_in Blanks b = is_blank b
 is_in NameBytes b = is_name_byte b
 is_in Digits b = is_digit b
 is_in HexDigits b = is_ascii_hexdigit b

@@ -19,6 +19,7 @@ pub enum Class {
 /// A set of bytes.
 #[derive(Clone, Copy)]
 pub enum ByteSet {
+    Blanks,
     NameBytes,
     Digits,
     HexDigits,
@@ -70,6 +71,7 @@ fn is_in(set: ByteSet, byte: u8) -> bool
     ensures { result ≡ is_in set byte }
 {
     match set {
+        ByteSet::Blanks => matches!(byte, b' ' | b'\t' | b'\r' | b'\n' | 12),
         ByteSet::NameBytes => byte.is_ascii_alphanumeric() || byte == b'_',
         ByteSet::Digits => byte.is_ascii_digit(),
         ByteSet::HexDigits => byte.is_ascii_hexdigit(),

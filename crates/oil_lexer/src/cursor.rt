@@ -4,7 +4,7 @@ ghost use Rattle.osek_values.specs.declared.limits.TheConstants.{MAX_FILE};
 ghost use Rattle.oil_lexer.specs.{declared.token.Token.{Token}, Ahead.{AreAhead, AreOnly, Ahead, Ahead-prop}};
 
 use crate::lexer::line_ends;
-use crate::piece::piece;
+use crate::piece::front;
 use crate::token::{Piece, Token};
 use std::marker::Model;
 
@@ -63,7 +63,7 @@ impl<'a> Tokens<'a> {
         let mut line = self.line;
         let mut rest = self.rest;
         while !rest.is_empty() {
-            let Ok((piece, len)) = piece(rest) else {
+            let Ok((piece, len)) = front(rest) else {
                 unreachable!();
             };
             let (prefix, after) = rest.split_at(len);

@@ -5,7 +5,7 @@ ghost use Rattle.oil_lexer.specs.{declared.token.Token.{Token}, Ahead.{AreAhead}
 
 use crate::cursor::Tokens;
 use crate::error::LexFault;
-use crate::piece::piece;
+use crate::piece::front;
 use osek_values::LexRule;
 use osek_values::limits::MAX_FILE;
 
@@ -28,7 +28,7 @@ fn judge(bytes: &[u8]) -> Result<(), LexFault>
     let mut line = 1u32;
     let mut rest = bytes;
     while !rest.is_empty() {
-        match piece(rest) {
+        match front(rest) {
             Ok((_, len)) => {
                 let (prefix, after) = rest.split_at(len);
                 line += line_ends(prefix);

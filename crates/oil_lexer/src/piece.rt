@@ -2,7 +2,7 @@
 ghost use Rattle.std.specs.Prelude.{◌≡◌, ℕ, ◌-◌, ◌<◌, ◌^◌, ◌≤◌, length, slice_index, SomeIff, MatchOption, MatchResult, IsTrue};
 ghost use Rattle.oil_lexer.specs.declared.{classes.{Class.TheVariants.{Digit, Quote, Slash}, ByteSet.TheVariants.{HexDigits}}, token.Piece.TheVariants.{Gap, Whole}};
 ghost use Rattle.oil_lexer.specs.{declared.token.TokenKind.TheVariants.{Text}, Classes.{class_of, is_in, AllIn}, Numbers.{digit_value, value_of}};
-ghost use Rattle.oil_lexer.specs.{Pieces.{part, ClosesAt, IsHex, IsLongest, NoPiece, Breaks}, Fronts.{IsFirstClose, IsLongestHex, IsNumber, IsFront}};
+ghost use Rattle.oil_lexer.specs.{Pieces.{part, ClosesAt, IsHex, IsLongest, NoPiece, Breaks}, Fronts.{IsFirstClose, IsLongestHex, IsNumber, IsFront, AreFirst}};
 
 use crate::classes::{ByteSet, Class, class_of, run_end};
 use crate::token::{Piece, Quoted, TokenKind, Word};
@@ -111,7 +111,7 @@ fn comment_end(bytes: &[u8]) -> Result<usize, LexRule>
 }
 
 /// The piece at the front of a text that isn't empty, and its length.
-pub fn piece(bytes: &[u8]) -> Result<(Piece<'_>, usize), LexRule>
+fn piece(bytes: &[u8]) -> Result<(Piece<'_>, usize), LexRule>
     requires { 0 < length bytes.now }
     ensures { IsFront result bytes.now }
 {
@@ -146,4 +146,16 @@ pub fn piece(bytes: &[u8]) -> Result<(Piece<'_>, usize), LexRule>
         Class::Single(mark) => Ok((Piece::Whole(TokenKind::Mark(mark)), 1)),
         Class::Nothing => Err(LexRule::L1),
     }
+}
+
+/// What stands at the front of a text that isn't empty, and its length: the piece there, and blanks that follow each other as one.
+pub fn front(bytes: &[u8]) -> Result<(Piece<'_>, usize), LexRule>
+    requires { 0 < length bytes.now }
+    ensures { AreFirst result bytes.now }
+{
+    let blanks = run_end(ByteSet::Blanks, bytes, 0);
+    if blanks > 0 {
+        return Ok((Piece::Gap, blanks));
+    }
+    piece(bytes)
 }

@@ -8,7 +8,7 @@ use std::error::Error;
 use std::fmt;
 
 /// How many bytes are read at once.
-const PIECE: usize = 4096;
+const PIECE: usize = 65_536;
 
 /// Why a file was not loaded.
 #[derive(Clone, Copy, Debug, PartialEq, Eq)]
@@ -46,7 +46,7 @@ impl From<AllocError> for LoadError {
 fn bytes_to_ask(taken: u64, most: u64) -> usize
     requires { taken ≤ most }
     ensures some { 0 < result }
-    ensures piece { result ≤ 4096 }
+    ensures piece { result ≤ 65536 }
     ensures within { taken + result ≤ most + 1 }
 {
     (most - taken).saturating_add(1).min(PIECE as u64) as usize

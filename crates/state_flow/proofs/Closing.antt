@@ -14,9 +14,9 @@ use Rattle.abstract_state.proofs.{RegularLaws.{start_regular, step_regular}, Con
 use Rattle.flow_model.specs.Effects.{IsAt}
 use Rattle.numbered_sets.specs.PlainTables.{row_at}
 use Rattle.state_flow.specs.{declared.cells.Cell.{Cell}, Cells.{AreInOrder, IsWaitingAt, NoneWaitsFrom, cell_number, waits, waiting_count}}
-use Rattle.flow_rules.specs.Rows.{IsProperRow, IsRowIn}
+use Rattle.point_exits.specs.Rows.{IsProperRow, IsRowIn}
 use Rattle.state_flow.specs.Rows.{row_of, sets_in}
-use Rattle.flow_rules.specs.Starts.{IsStartRow}
+use Rattle.point_exits.specs.Starts.{IsStartRow}
 use Rattle.state_flow.specs.{Reaching.{IsLed, Leads}, Progress.{AreProperCells, IsClosed, values_in, AreJoined, Progress, AreStarted}}
 use Rattle.state_flow.proofs.{CellLists.{set_cases, order_set}, RowLaws.{entry_cell, cell_entry, cell_value, only_there}}
 

@@ -12,11 +12,11 @@ use Rattle.numbered_sets.proofs.{PlainLaws.{ascending_in_order, plain_set_at}, V
 use Rattle.numbered_sets.specs.PlainTables.{row_at}
 use Rattle.flow_exits.specs.{declared.exit.Exit.{Exit}, Exits.{AreExact}, Leaving.{AreExits}}
 use Rattle.flow_exits.proofs.Covering.{exits_cover, exits_shown}
-use Rattle.flow_rules.specs.declared.group.{NumberEnd.{NumberEnd}, Ends.{Ends}, ExitGroup.{ExitGroup}}
-use Rattle.flow_rules.specs.declared.group.Ends.TheVariants as ends
-use Rattle.flow_rules.specs.Groups.{with_end, exits_by, exits_of, all_exits, AreKnownEnds, AreKnownGroups}
-use Rattle.flow_rules.proofs.{GrowingPools.{end_known}, EntryCounts.{filled_numbers}}
-use Rattle.flow_rules.specs.Rows.{IsProperRow}
+use Rattle.point_exits.specs.declared.group.{NumberEnd.{NumberEnd}, Ends.{Ends}, ExitGroup.{ExitGroup}}
+use Rattle.point_exits.specs.declared.group.Ends.TheVariants as ends
+use Rattle.point_exits.specs.Groups.{with_end, exits_by, exits_of, all_exits, AreKnownEnds, AreKnownGroups}
+use Rattle.point_exits.proofs.{GrowingPools.{end_known}, EntryCounts.{filled_numbers}}
+use Rattle.point_exits.specs.Rows.{IsProperRow}
 use Rattle.state_flow.specs.Reaching.{Leads}
 use Rattle.state_flow.proofs.ExitRows.{exits_lead, exit_row_proper}
 use Rattle.state_flow.specs.ExitRows.{all_rows, AreProperRows}

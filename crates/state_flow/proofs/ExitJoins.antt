@@ -7,11 +7,11 @@ use Rattle.osek_standard.proofs.Members.{among_contained, contained_among, among
 use Rattle.abstract_state.specs.declared.table.TableRow.{TableRow}
 use Rattle.numbered_sets.specs.{declared.numbered_entry.NumberedEntry.{NumberedEntry}, Pools.{Values}, Views.{plain_entry}, PlainTables.{row_at}}
 use Rattle.flow_exits.specs.declared.exit.Exit.{Exit}
-use Rattle.flow_rules.specs.declared.group.{NumberEnd.{NumberEnd}, Ends.{Ends}, ExitGroup.{ExitGroup}}
-use Rattle.flow_rules.specs.declared.group.Ends.TheVariants as ends
-use Rattle.flow_rules.specs.Groups.{with_end, exits_by, exits_of, all_exits}
+use Rattle.point_exits.specs.declared.group.{NumberEnd.{NumberEnd}, Ends.{Ends}, ExitGroup.{ExitGroup}}
+use Rattle.point_exits.specs.declared.group.Ends.TheVariants as ends
+use Rattle.point_exits.specs.Groups.{with_end, exits_by, exits_of, all_exits}
 use Rattle.state_flow.specs.declared.cells.Cell.{Cell}
-use Rattle.flow_rules.specs.Rows.{IsProperRow}
+use Rattle.point_exits.specs.Rows.{IsProperRow}
 use Rattle.state_flow.proofs.JoinedRows.{joined_none, joined_then}
 use Rattle.state_flow.specs.{PlainCells.{plain_cells}, Numbering.{AreNumberedCells}, ExitRows.{rows_at, end_row, rows_with, rows_by, all_rows, AreProperRows, AreRowsJoined}}
 

@@ -12,9 +12,9 @@ use Rattle.abstract_state.proofs.{AllowedLaws.{well_point, well_part}, RegularLa
 use Rattle.flow_model.specs.Effects.{AreAllAllowed, IsAt}
 use Rattle.numbered_sets.specs.PlainTables.{row_at}
 use Rattle.flow_exits.specs.{declared.exit.Exit.{Exit}, Exits.{CoverSteps, IsStepTo, IsExact, AreExact}}
-use Rattle.flow_rules.specs.Rows.{IsProperRow, IsRowIn}
+use Rattle.point_exits.specs.Rows.{IsProperRow, IsRowIn}
 use Rattle.state_flow.specs.Reaching.{IsLed, IsReached, Leads}
-use Rattle.flow_rules.proofs.ProperRows.{set_known, proper_row}
+use Rattle.point_exits.proofs.ProperRows.{set_known, proper_row}
 
 -- the row of an exit
 abbrev pub exit_row : Exit → TableRow

@@ -8,7 +8,7 @@ use Rattle.abstract_state.specs.{declared.table.{PlainEntry.{PlainEntry}, TableR
 use Rattle.abstract_state.specs.Tables.{Sets, IsContained, entry_values}
 use Rattle.abstract_state.proofs.ContainmentLaws.{contained_itself, contained_onward}
 use Rattle.state_flow.specs.{declared.cells.Cell.{Cell}, Cells.{MayJoin, HasAbove, IsNewCell, IsRaisedCell, IsJoined}}
-use Rattle.flow_rules.specs.Rows.{IsProperRow, IsRowIn}
+use Rattle.point_exits.specs.Rows.{IsProperRow, IsRowIn}
 use Rattle.state_flow.specs.{Rows.{row_of, sets_in}, Progress.{AreProperCells, AreJoined}}
 use Rattle.state_flow.proofs.{EntryUnion.{of_two}, RowLaws.{cell_in, cells_contained, contained_row}}
 

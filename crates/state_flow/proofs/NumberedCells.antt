@@ -11,7 +11,7 @@ use Rattle.numbered_sets.specs.{Pools.{Values, no_values, pool_domains, AreValue
 use Rattle.numbered_sets.proofs.{ViewLaws.{same_view, still_known, same_heights}, KnownNumbers.{known_sound}}
 use Rattle.numbered_sets.specs.PlainTables.{row_at}
 use Rattle.state_flow.specs.{declared.cells.Cell.{Cell}, Cells.{cell_number, AreInOrder, IsWaitingAt, NoneWaitsFrom, MayJoin, IsJoined}}
-use Rattle.flow_rules.specs.Rows.{IsProperRow}
+use Rattle.point_exits.specs.Rows.{IsProperRow}
 use Rattle.state_flow.specs.Progress.{AreProperCells, AreJoined}
 use Rattle.state_flow.proofs.{CellLists.{set_cases}, JoinedRows.{may_join, joined_one}, Closing.{evaluated, evaluated_proper, progress_made}}
 use Rattle.state_flow.specs.{PlainCells.{plain_cell, plain_cells, AreCellsOf}, Numbering.{AreNumberedCells, IsEvaluated, HasProgress}}

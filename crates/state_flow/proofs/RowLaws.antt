@@ -11,8 +11,8 @@ use Rattle.abstract_state.specs.{declared.{value.PartValue.{PartValue}, table.{P
 use Rattle.abstract_state.specs.{Tables.{Sets, IsContained, IsProper, set_at, is_member}, Written.{IsRow, IsWritten}}
 use Rattle.abstract_state.proofs.{OrderLaws.{part_right, part_laws}, EqualityLaws.{written_entry, written_value}}
 use Rattle.state_flow.specs.{declared.cells.Cell.{Cell}, Cells.{cell_number, AreInOrder}}
-use Rattle.flow_rules.specs.Rows.{IsRowIn}
-use Rattle.flow_rules.proofs.ProperRows.{set_known}
+use Rattle.point_exits.specs.Rows.{IsRowIn}
+use Rattle.point_exits.proofs.ProperRows.{set_known}
 use Rattle.state_flow.specs.{Rows.{row_of, table_of, sets_in}, Progress.{AreProperCells}}
 use Rattle.state_flow.proofs.CellLists.{same_cell}
 

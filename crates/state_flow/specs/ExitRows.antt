@@ -3,11 +3,11 @@ use Rattle.std.specs.{Prelude.{List, map, Contains}, List.{flat_map}}
 use Rattle.osek_standard.specs.declared.{app.App.{App}, point.Point.{Point}}
 use Rattle.abstract_state.specs.declared.table.TableRow.{TableRow}
 use Rattle.numbered_sets.specs.{declared.numbered_entry.NumberedEntry.{NumberedEntry}, Pools.{Values}, Views.{plain_entry}, PlainTables.{row_at}}
-use Rattle.flow_rules.specs.declared.group.{NumberEnd.{NumberEnd}, Ends.{Ends}, ExitGroup.{ExitGroup}}
-use Rattle.flow_rules.specs.declared.group.Ends.TheVariants as ends
-use Rattle.flow_rules.specs.Groups.{with_end}
+use Rattle.point_exits.specs.declared.group.{NumberEnd.{NumberEnd}, Ends.{Ends}, ExitGroup.{ExitGroup}}
+use Rattle.point_exits.specs.declared.group.Ends.TheVariants as ends
+use Rattle.point_exits.specs.Groups.{with_end}
 use Rattle.state_flow.specs.declared.cells.Cell.{Cell}
-use Rattle.flow_rules.specs.Rows.{IsProperRow}
+use Rattle.point_exits.specs.Rows.{IsProperRow}
 use Rattle.state_flow.specs.{Progress.{AreJoined}, PlainCells.{plain_cells, AreCellsOf}}
 
 -- the rows of an entry at points

@@ -4,7 +4,7 @@ use Rattle.osek_values.specs.declared.{event.Event.{Event}, numbers.ModeNo.{Mode
 use Rattle.osek_standard.specs.{declared.{app.App.{App}, state.State.{State}, point.Point.{Point}}, Points.{point_of}, Kernel.{start, step}}
 use Rattle.abstract_state.specs.{declared.table.{PlainEntry.{PlainEntry}, TableRow.{TableRow}}, Tables.{Sets, In, Inductive, IsContained, entry_values}}
 use Rattle.state_flow.specs.{declared.cells.Cell.{Cell}, Cells.{AreInOrder, waiting_count, ranks}}
-use Rattle.flow_rules.specs.Rows.{IsProperRow, IsRowIn}
+use Rattle.point_exits.specs.Rows.{IsProperRow, IsRowIn}
 use Rattle.state_flow.specs.Rows.{row_of, sets_in}
 
 -- The cells stand in order, each for a proper row.

@@ -5,7 +5,7 @@ use Rattle.osek_standard.specs.{declared.{app.App.{App}, state.State.{State}, po
 use Rattle.abstract_state.specs.{declared.table.{PlainEntry.{PlainEntry}, TableRow.{TableRow}}, Components.{abstract_of}, Tables.{Sets, Inductive}}
 use Rattle.flow_model.specs.Effects.{AreIn, IsAt}
 use Rattle.numbered_sets.specs.PlainTables.{row_at}
-use Rattle.flow_rules.specs.Rows.{IsProperRow, IsRowIn}
+use Rattle.point_exits.specs.Rows.{IsProperRow, IsRowIn}
 
 -- the state is one of some row
 pub record IsLed (app : App) (rows : List TableRow) (s : State) : Type 0 where

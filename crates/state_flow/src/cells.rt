@@ -3,6 +3,7 @@ ghost use Rattle.std.specs.Prelude.{◌≡◌, ◌≤◌, IfOk, IfErr, OnOk, IfS
 ghost use Rattle.state_flow.specs.Cells.{AreInOrder, IsPlaceOf, IsGapFor, IsBehind, NoneWaitsFrom, IsFirstWaiting, IsNextWaiting, MayJoin, IsJoined};
 ghost use Rattle.osek_standard.specs.Points.{point_number};
 
+use crate::kept::Kept;
 use crate::lattice::Lattice;
 use osek_standard::Point;
 use osek_values::Memory;
@@ -14,9 +15,9 @@ pub struct Cell<E> {
     pub point: Point,
     /// The point's number, by which cells are looked for.
     pub number: u32,
-    pub entry: E,
     /// It is to be evaluated: it is new, or its entry grew since it was.
     pub waiting: bool,
+    pub entry: Kept<E>,
 }
 
 impl<E: Lattice> Cell<E> {
@@ -99,14 +100,15 @@ pub fn join<E: Lattice + Drop>(
     match place_of(cells.as_slice(), point) {
         Ok(place) => cells[place].raise(entry)?,
         Err(gap) => {
-            let entry = entry.copy(alloc)?;
+            let copy = entry.copy(alloc)?;
+            let entry = Kept::new(alloc, copy)?;
             cells.insert(
                 gap,
                 Cell {
                     point,
                     number: point.number(),
-                    entry,
                     waiting: true,
+                    entry,
                 },
             )?
         }

@@ -1,16 +1,16 @@
 //! The exits of a point, joined to cells.
 ghost use Rattle.std.specs.Prelude.{◌≡◌, [], ◌∷◌, Contains, OnOk};
 ghost use Rattle.numbered_sets.specs.Views.{AreNumbersOf};
-ghost use Rattle.flow_rules.specs.{declared.group.NumberEnd.{NumberEnd}, Groups.{IsKnownEnd, IsKnownGroup, AreKnownGroups}, Rows.{IsProperRow}};
+ghost use Rattle.point_exits.specs.{declared.group.NumberEnd.{NumberEnd}, Groups.{IsKnownEnd, IsKnownGroup, AreKnownGroups}, Rows.{IsProperRow}};
 ghost use Rattle.state_flow.specs.{Numbering.{AreNumberedCells}, ExitRows.{rows_at, end_row, rows_with, rows_by, all_rows, AreProperRows, AreRowsJoined}};
 
 use crate::cells::Cell;
 use crate::numbered_cells::put_in;
 use abstract_state::Point;
-use flow_rules::{Ends, ExitGroup, NumberEnd};
 use numbered_sets::{NumberedEntry, Pool};
 use osek_standard::App;
 use osek_values::Memory;
+use point_exits::{Ends, ExitGroup, NumberEnd};
 use std::alloc::Global;
 
 /// Joins each exit of groups to the cell of its point.

@@ -3,17 +3,17 @@ ghost use Rattle.std.specs.Prelude.{◌≡◌, ◌+◌, ◌*◌, ◌<◌, ◌≤
 ghost use Rattle.osek_standard.specs.Counts.{points, height};
 ghost use Rattle.abstract_state.specs.{Domains.{HasMasks, domains as domains_of_entry, domains_of}, Tables.{Least, sets_of, value_count}, Written.{IsWritten}};
 ghost use Rattle.numbered_sets.specs.Pools.{pool_domains, IsLonger};
-ghost use Rattle.flow_rules.specs.Levels.{AreLevels};
+ghost use Rattle.point_exits.specs.Levels.{AreLevels};
 ghost use Rattle.state_flow.specs.{Cells.{IsWaitingAt}, Progress.{Progress}, PlainCells.{plain_cells, AreCellsOf}, Numbering.{AreNumberedCells, HasProgress}};
 
 use crate::cells::{Cell, next_waiting, place_behind};
 use crate::joining::join_groups;
 use crate::numbered_cells::{put_in, rows};
 use abstract_state::{Domain, LiveVal, PartValue, PlainEntry, Val, masks_are_few};
-use flow_rules::{Levels, exit_groups, start_row};
 use numbered_sets::{NumberedEntry, Pool, Table, numbered};
 use osek_standard::App;
 use osek_values::{BlockNo, Held, Memory, ModeNo, Steps};
+use point_exits::{Levels, exit_groups, start_row};
 use std::alloc::Global;
 use std::sync::ledger::Ledger;
 
@@ -139,6 +139,6 @@ fn turn(
 {
     let cell = &mut cells[place];
     cell.waiting = false;
-    let groups = exit_groups(alloc, app, cell.point, &cell.entry, pool, levels)?;
+    let groups = exit_groups(alloc, app, cell.point, cell.entry.get(), pool, levels)?;
     join_groups(alloc, app, groups, pool, cells)
 }

@@ -5,6 +5,7 @@ mod cells;
 mod counts;
 mod entry;
 mod joining;
+mod kept;
 mod lattice;
 mod least_table;
 mod numbered;

@@ -1,7 +1,7 @@
 //! Cells of numbered entries.
 ghost use Rattle.std.specs.Prelude.{◌≡◌, [], ◌∷◌, map, IfOk, OnOk};
 ghost use Rattle.numbered_sets.specs.{Views.{plain_entry, AreNumbersOf}, PlainTables.{row_at}};
-ghost use Rattle.flow_rules.specs.Rows.{IsProperRow};
+ghost use Rattle.point_exits.specs.Rows.{IsProperRow};
 ghost use Rattle.state_flow.specs.{Progress.{AreJoined}, PlainCells.{plain_cells, numbered_row, AreCellsOf}, Numbering.{AreNumberedCells}};
 
 use crate::cells::{Cell, join};
@@ -34,11 +34,11 @@ pub fn put_in(
 pub fn rows(alloc: Global, cells: Vec<Cell<NumberedEntry>>) -> Result<Seq<NumberedRow>, Memory>
     ensures { IfOk result (λ rows. rows ≡ map numbered_row cells.items) }
 {
-    let mut rows = Seq::new(alloc);
+    let mut rows = Seq::of(Vec::with_capacity(alloc, cells.len())?);
     for cell in cells {
         rows.push(NumberedRow {
             point: cell.point,
-            entry: cell.entry,
+            entry: cell.entry.into_value(),
         })?;
     }
     Ok(rows)

@@ -5,6 +5,7 @@ use Rattle.std.proofs.lemmas.{Bool.{lt-ltb, ltb-true, ltb-false}, List.{drop_all
 use Rattle.osek_values.specs.declared.event.Event.{Event}
 use Rattle.osek_standard.specs.declared.app.App.{App}
 use Rattle.trace_text.specs.{declared.{fault.EventFault.{EventFault, TheVariants.{E3}}, feed.FeedStep.TheVariants.{Line, End, More}}, EventWords.{read_line, said, words}}
+use Rattle.trace_text.specs.declared.feed.TheConstants.{FEED_ROOM}
 use Rattle.trace_text.specs.EventText.{text_lines, with_line, read_lines, nothing_read, numbered_lines}
 use Rattle.trace_text.specs.Feeds.{FeedState, no_bytes, taken_count, after_give, Peeled, peeled_at, peeled, answer_by, next_answer, left_by, after_next, ComesOut, gives, finishes, waits, a_line, ends, lines_to_long}
 use Rattle.trace_text.proofs.{FirstLines.{front_place, long_first, short_line, long_line, last_line}, LineLaws.{is_lf}}
@@ -133,7 +134,7 @@ taken_within false a r n h = omega (arith, h)
 pub given : (s : FeedState) (rest : List ℕ) (n : ℕ) → (after_give s (take n rest)).ahead ++ drop (taken_count s (take n rest)) rest ≡ s.ahead ++ rest
 given s rest n =
     let k = taken_count s (take n rest) in
-    let le : k ≤ n = taken_within s.finished (length (take n rest)) (8192 - length s.ahead) n (omega (arith, length-take n rest)) in
+    let le : k ≤ n = taken_within s.finished (length (take n rest)) (FEED_ROOM - length s.ahead) n (omega (arith, length-take n rest)) in
     append_assoc s.ahead (take k (take n rest)) (drop k rest)
     ∙ ap (λ t. s.ahead ++ (t ++ drop k rest)) (take-take k n rest le)
     ∙ ap (λ t. s.ahead ++ t) (take-append-drop k rest)

@@ -9,7 +9,7 @@ use std::alloc::Global;
 use std::marker::Model;
 
 /// How many bytes a feed has room for.
-pub const FEED_ROOM: usize = 8192;
+pub const FEED_ROOM: usize = 73_728;
 
 /// What a feed answers where the next line is asked for.
 #[derive(Clone, Copy, PartialEq, Eq)]

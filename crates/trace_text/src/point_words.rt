@@ -216,6 +216,16 @@ fn point_of(app: &App, word: &[u8]) -> Result<Option<Point>, PointFault>
     }
 }
 
+// What most lines say, judged at one look: a point of a block, spelled with no blank.
+fn plain_point(app: &App, line: &[u8]) -> Option<Point>
+    ensures { IfSome result (λ p. IsPoint app.now p × (point_text app.now p ≡ line.now)) }
+{
+    let Some(rest) = behind_b(line) else {
+        return None;
+    };
+    block_point(app, rest)
+}
+
 fn point_in(app: &App, line: &[u8]) -> Result<Option<Point>, PointFault>
     ensures { result ≡ point_of_words app.now (words line.now) }
 {
@@ -236,6 +246,9 @@ fn point_in(app: &App, line: &[u8]) -> Result<Option<Point>, PointFault>
 pub fn read_point(app: &App, line: &[u8]) -> Result<Option<Point>, PointFault>
     ensures { result ≡ read_point_line app.now line.now }
 {
+    if let Some(point) = plain_point(app, line) {
+        return Ok(Some(point));
+    }
     if line.len() > MAX_EVENT_LINE {
         return Err(PointFault::G3);
     }

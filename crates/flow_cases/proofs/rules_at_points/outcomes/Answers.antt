@@ -4,8 +4,8 @@ use Rattle.abstract_state.specs.{declared.{value.Domain.{Domain}, table.PlainEnt
 use Rattle.flow_model.specs.{declared.rule.Rule.{Rule}, Effects.{AreAllAllowed}}
 use Rattle.numbered_sets.specs.{Pools.{no_values, pool_domains}, Views.{plain_entry}}
 use Rattle.numbered_sets.proofs.{ViewLaws.{same_view, still_known, same_domains}, NumberingLaws.{longer_onward}}
-use Rattle.flow_rules.specs.Applying.{KeepsDomains}
-use Rattle.flow_rules.proofs.KeptDomains.{exact_keep}
+use Rattle.point_exits.specs.Applying.{KeepsDomains}
+use Rattle.point_exits.proofs.KeptDomains.{exact_keep}
 use Rattle.flow_cases.proofs.rules_at_points.outcomes.Goals as goal
 
 domains_kept : (ds : List Domain) → pool_domains (map no_values ds) ≡ ds

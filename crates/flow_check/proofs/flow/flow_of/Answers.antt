@@ -4,7 +4,7 @@ use Rattle.std.specs.Prelude.{Contains}
 use Rattle.abstract_state.specs.{declared.table.TableRow.{TableRow}, Tables.{sets_of}}
 use Rattle.numbered_sets.specs.{declared.table.NumberedRow.{NumberedRow}, PlainTables.{plain_row, plain_rows, plain_table}}
 use Rattle.numbered_sets.proofs.{NumberingLaws.{longer_itself, longer_onward}, WrittenRows.{pool_has_tasks}}
-use Rattle.flow_rules.specs.{declared.group.ExitGroup.{ExitGroup}, Groups.{all_exits}}
+use Rattle.point_exits.specs.{declared.group.ExitGroup.{ExitGroup}, Groups.{all_exits}}
 use Rattle.flow_check.specs.{Rows.{AreExitsOf}, Staying.{AreAllIn, IsSomeGroupOut}, Outcomes.{AreFound}, Flows.{StaysAt}}
 use Rattle.flow_check.proofs.{RowOutcomes.{stands_known}, TableRows.{in_order}, GroupEnds.{set_for}}
 use Rattle.flow_check.proofs.FlowLaws.{numbers_there, proper_there, next_row, stays_there, leaves_there, flow_leaves, flow_stays}

@@ -1,7 +1,7 @@
 use Rattle.std.proofs.Common.{◌≡◌, ◌<◌, ◌++◌, ◌∷◌, [], ◌∙◌, ℕ, length, get_or, set, Some, None, sym, ap, subst}
 use Rattle.osek_values.specs.{Numbers.{block_no}, declared.numbers.BlockNo.{BlockNo}}
 use Rattle.osek_standard.specs.{declared.point.Point.{Point}, Points.{StandsAt}}
-use Rattle.flow_rules.specs.Groups.{all_exits}
+use Rattle.point_exits.specs.Groups.{all_exits}
 use Rattle.flow_check.specs.Outcomes.{AreFound}
 use Rattle.flow_check.proofs.{RowOutcomes.{stands_once, row_passed, row_added}, ExitOutcomes.{of_all_exits}}
 use Rattle.flow_check.proofs.outcomes.add_groups.Goals as goal

@@ -1,7 +1,7 @@
 use Rattle.std.proofs.{Common.{List, refl, sym, subst, arith}, lemmas.Bool.{OnFalse_at}}
 use Rattle.osek_values.specs.Numbers.{block_no}
 use Rattle.numbered_sets.specs.PlainTables.{plain_row}
-use Rattle.flow_rules.specs.{declared.group.ExitGroup.{ExitGroup}, Groups.{all_exits}}
+use Rattle.point_exits.specs.{declared.group.ExitGroup.{ExitGroup}, Groups.{all_exits}}
 use Rattle.flow_check.specs.Rows.{AreExitsOf}
 use Rattle.flow_check.proofs.RowOutcomes.{stands_known, row_passed}
 use Rattle.flow_check.proofs.outcomes.add_row.Goals as goal

@@ -1,6 +1,6 @@
 use Rattle.std.proofs.Common.{take}
 use Rattle.numbered_sets.specs.Pools.{IsLonger}
-use Rattle.flow_rules.specs.Levels.{AreLevels}
+use Rattle.point_exits.specs.Levels.{AreLevels}
 use Rattle.flow_check.specs.Outcomes.{AreFound}
 use Rattle.flow_check.proofs.outcomes.findings.Given as goal
 

@@ -1,7 +1,7 @@
 use Rattle.std.proofs.{Common.{List, subst, take}, lemmas.List.{take_all}}
 use Rattle.flow_exits.specs.declared.exit.Exit.{Exit}
-use Rattle.flow_rules.specs.{declared.group.ExitGroup.{ExitGroup}, Groups.{all_exits}}
-use Rattle.flow_rules.proofs.GroupLaws.{groups_more}
+use Rattle.point_exits.specs.{declared.group.ExitGroup.{ExitGroup}, Groups.{all_exits}}
+use Rattle.point_exits.proofs.GroupLaws.{groups_more}
 use Rattle.flow_check.specs.Outcomes.{AreOfExits}
 use Rattle.flow_check.proofs.ExitOutcomes.{findings_of_none}
 use Rattle.flow_check.proofs.outcomes.found_in.Goals as goal

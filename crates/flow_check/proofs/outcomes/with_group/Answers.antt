@@ -1,5 +1,5 @@
 use Rattle.std.proofs.{Common.{◌∙◌}, lemmas.Bool.{OnTrue_at, OnFalse_at}}
-use Rattle.flow_rules.specs.Groups.{exits_of}
+use Rattle.point_exits.specs.Groups.{exits_of}
 use Rattle.flow_check.proofs.ExitOutcomes.{with_arrivals, with_one, with_old, alike_in_group, some_in_group, none_in_group}
 use Rattle.flow_check.proofs.outcomes.with_group.Goals.{then-tells-via-then-tells, then-tells-via-else-tells+then-not-has_end}
 use Rattle.flow_check.proofs.outcomes.with_group.Goals as goal

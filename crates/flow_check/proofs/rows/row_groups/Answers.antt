@@ -1,6 +1,6 @@
-use Rattle.flow_rules.proofs.EntryCounts.{filled_numbers}
+use Rattle.point_exits.proofs.EntryCounts.{filled_numbers}
 use Rattle.numbered_sets.{specs.PlainTables.{plain_row}, proofs.WrittenRows.{number_domains_of}}
-use Rattle.flow_rules.specs.Groups.{all_exits}
+use Rattle.point_exits.specs.Groups.{all_exits}
 use Rattle.flow_check.proofs.rows.row_groups.Goals as goal
 
 pub exit_groups-requires-clause-point : goal.exit_groups-requires-clause-point

@@ -1,5 +1,5 @@
 use Rattle.std.proofs.{Common.{◌≡◌, ℕ, get_or, inl, inr, sym, ap, subst, ◌∙◌, arith}, lemmas.{Bool.{cases_lt, OnTrue_at, OnFalse_at}, List.{get_or_default}}}
-use Rattle.flow_rules.specs.declared.group.ExitGroup.{ExitGroup}
+use Rattle.point_exits.specs.declared.group.ExitGroup.{ExitGroup}
 use Rattle.flow_check.specs.Staying.{AreIn, ends_by}
 use Rattle.flow_check.proofs.staying.all_stay.Goals as goal
 

@@ -1,6 +1,6 @@
 use Rattle.std.proofs.{Common.{◌≡◌, ℕ, get_or, inl, inr, refl, sym, subst, ◌∙◌, arith}, lemmas.Bool.{cases_lt, OnTrue_at, OnFalse_at}}
 use Rattle.numbered_sets.specs.declared.numbered_entry.NumberedEntry.{NumberedEntry}
-use Rattle.flow_rules.specs.{declared.group.NumberEnd.{NumberEnd}, Groups.{with_end}}
+use Rattle.point_exits.specs.{declared.group.NumberEnd.{NumberEnd}, Groups.{with_end}}
 use Rattle.flow_check.specs.Staying.{IsIn, IsOut, HasSetOf, end_at}
 use Rattle.flow_check.proofs.GroupEnds.{each_in, some_out, in_more}
 use Rattle.flow_check.proofs.staying.all_with.Goals as goal

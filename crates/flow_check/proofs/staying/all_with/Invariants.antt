@@ -1,5 +1,5 @@
 use Rattle.std.proofs.Common.{◌≡◌, ℕ, ◌<◌, get_or}
-use Rattle.flow_rules.specs.{declared.group.NumberEnd.{NumberEnd}, Groups.{with_end}}
+use Rattle.point_exits.specs.{declared.group.NumberEnd.{NumberEnd}, Groups.{with_end}}
 use Rattle.flow_check.specs.Staying.{IsIn, end_at}
 use Rattle.flow_check.proofs.staying.all_with.Given as goal
 

@@ -2,7 +2,7 @@ use Rattle.std.proofs.Common.{length, sym, ap, subst, ◌∙◌, arith, get_or-s
 use Rattle.std.specs.Bool.{OnTrue, OnFalse}
 use Rattle.std.proofs.lemmas.List.{length-set}
 use Rattle.numbered_sets.specs.{declared.numbered_entry.NumberedEntry.{NumberedEntry}, Numbers.{Numbers}, NumberedEntries.{no_set, numbers_at}}
-use Rattle.flow_rules.proofs.HeldNumbers.{now_holds, held_back}
+use Rattle.point_exits.proofs.HeldNumbers.{now_holds, held_back}
 use Rattle.flow_check.specs.Staying.{IsIn, IsOut, end_at}
 use Rattle.flow_check.proofs.staying.is_end_in.Goals as goal
 

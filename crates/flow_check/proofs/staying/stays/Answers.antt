@@ -1,7 +1,7 @@
 use Rattle.std.proofs.Common.{List, sym, subst}
 use Rattle.numbered_sets.specs.declared.numbered_entry.NumberedEntry.{NumberedEntry}
-use Rattle.flow_rules.specs.declared.group.NumberEnd.{NumberEnd}
-use Rattle.flow_rules.specs.declared.group.Ends.TheVariants as ends
+use Rattle.point_exits.specs.declared.group.NumberEnd.{NumberEnd}
+use Rattle.point_exits.specs.declared.group.Ends.TheVariants as ends
 use Rattle.flow_check.specs.Staying.{HasSetFor}
 use Rattle.flow_check.proofs.staying.stays.Goals as goal
 

@@ -1,6 +1,6 @@
 use Rattle.std.proofs.Common.{List, take}
 use Rattle.numbered_sets.specs.Pools.{Values}
-use Rattle.flow_rules.specs.Groups.{all_exits}
+use Rattle.point_exits.specs.Groups.{all_exits}
 use Rattle.flow_report.specs.Noting.{AreHooks, NotesByExit}
 use Rattle.flow_report.proofs.noting.hooks_of_row.Given as goal
 

@@ -1,6 +1,6 @@
 use Rattle.std.proofs.Common.{ℕ, take}
 use Rattle.numbered_sets.specs.Pools.{IsLonger}
-use Rattle.flow_rules.specs.Levels.{AreLevels}
+use Rattle.point_exits.specs.Levels.{AreLevels}
 use Rattle.flow_report.specs.Noting.{AreHooks, NotesInRows}
 use Rattle.flow_report.proofs.noting.hooks_of_rows.Given as goal
 

@@ -4,7 +4,9 @@ use Rattle.abstract_state.specs.declared.value.Component.{Component}
 use Rattle.abstract_state.specs.declared.value.Component.TheVariants as component
 use Rattle.abstract_state.specs.{declared.table.ValueSet.{ValueSet}, Components.{component_at, component_count, IsComponent}, Tables.{empty_set, set_at}}
 use Rattle.flow_rules.specs.Allowed.{may_be_by, IsPartOf}
-use Rattle.flow_rules.proofs.{AllowedSets.{ArePartsUpTo, parts_more}, BarredValues.{listed_component}, KeptDomains.{size}}
+use Rattle.flow_rules.proofs.{AllowedSets.{ArePartsUpTo, parts_more}}
+use Rattle.point_exits.proofs.KeptDomains.{size}
+use Rattle.point_exits.proofs.StartEntry.{listed_component}
 use Rattle.flow_rules.proofs.allowing.allowed_part.Goals as goal
 
 pub at-requires : goal.at-requires

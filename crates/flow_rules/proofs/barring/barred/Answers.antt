@@ -4,9 +4,10 @@ use Rattle.abstract_state.specs.declared.value.Component.TheVariants as componen
 use Rattle.abstract_state.specs.{declared.table.ValueSet.{ValueSet}, Components.{component_number, component_no}, Tables.{empty_set, set_at}}
 use Rattle.abstract_state.proofs.Numbers.{number_known}
 use Rattle.flow_model.specs.declared.test.Condition.{Condition}
-use Rattle.flow_rules.proofs.KeptDomains.{size}
+use Rattle.point_exits.proofs.KeptDomains.{size}
 use Rattle.flow_rules.specs.Ruling.{bars, bars_at}
-use Rattle.flow_rules.proofs.BarredValues.{flat_more, listed_component}
+use Rattle.flow_rules.proofs.BarredValues.{flat_more}
+use Rattle.point_exits.proofs.StartEntry.{listed_component}
 use Rattle.flow_rules.proofs.barring.barred.Goals as goal
 
 pub component_number-component-requires : goal.component_number-component-requires

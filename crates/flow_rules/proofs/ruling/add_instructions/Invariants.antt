@@ -1,6 +1,7 @@
 use Rattle.std.proofs.Common.{take}
 use Rattle.numbered_sets.specs.{Pools.{IsLonger}, Views.{plain_entry}}
-use Rattle.flow_rules.specs.{Levels.{AreLevels}, Assembly.{AreAllAdded}}
+use Rattle.flow_rules.specs.Assembly.{AreAllAdded}
+use Rattle.point_exits.specs.Levels.{AreLevels}
 use Rattle.flow_rules.proofs.ruling.add_instructions.Given as goal
 
 abbrev pub invariant-loop-effect : goal.invariant-loop-effect

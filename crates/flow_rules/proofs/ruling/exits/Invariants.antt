@@ -1,5 +1,5 @@
 use Rattle.std.proofs.Common.{◌≡◌, take}
-use Rattle.flow_rules.specs.Groups.{all_exits}
+use Rattle.point_exits.specs.Groups.{all_exits}
 use Rattle.flow_rules.proofs.ruling.exits.Given as goal
 
 abbrev pub invariant-loop-group : goal.invariant-loop-group

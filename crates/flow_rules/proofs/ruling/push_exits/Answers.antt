@@ -1,7 +1,7 @@
-use Rattle.std.proofs.Common.{◌≡◌, ◌<◌, length, sym, subst, ap, ◌∙◌, List}
+use Rattle.std.proofs.Common.{◌<◌, length, sym, subst, ap, ◌∙◌, List}
 use Rattle.std.specs.Prelude.{Contains}
 use Rattle.numbered_sets.specs.{declared.numbered_entry.NumberedEntry.{NumberedEntry}, NumberedEntries.{numbers_at}}
-use Rattle.flow_rules.specs.{declared.group.NumberEnd.{NumberEnd}, Groups.{AreKnownEnds}}
+use Rattle.point_exits.specs.{declared.group.NumberEnd.{NumberEnd}, Groups.{AreKnownEnds}}
 use Rattle.flow_rules.proofs.ruling.push_exits.Goals as goal
 
 -- the component of an end has a set, of the domain of its numbers

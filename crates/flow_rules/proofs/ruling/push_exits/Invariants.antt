@@ -1,5 +1,5 @@
 use Rattle.std.proofs.Common.{◌≡◌, ◌++◌, map, take}
-use Rattle.flow_rules.specs.{declared.group.NumberEnd.{NumberEnd}, Groups.{exit_at, with_end}}
+use Rattle.point_exits.specs.{declared.group.NumberEnd.{NumberEnd}, Groups.{exit_at, with_end}}
 use Rattle.flow_rules.proofs.ruling.push_exits.Given as goal
 
 abbrev pub invariant-loop-point : goal.invariant-loop-point

@@ -1,5 +1,6 @@
 use Rattle.numbered_sets.specs.Views.{plain_entry}
-use Rattle.flow_rules.proofs.PointRules.{passive_covering, passive_exact, passive_foresees, executing_covering, executing_exact, executing_foresees, executes_there}
+use Rattle.point_exits.proofs.PassivePoints.{passive_exact}
+use Rattle.flow_rules.proofs.PointRules.{passive_covering, passive_foresees, executing_covering, executing_exact, executing_foresees, executes_there}
 use Rattle.flow_rules.proofs.ruling.rules.Goals as goal
 
 pub returns-in-None-clause-covering : goal.returns-in-None-clause-covering

@@ -1,6 +1,6 @@
 use Rattle.std.proofs.{Common.{◌∷◌, [], List, map, subst, take}, lemmas.List.{take_all}}
 use Rattle.osek_standard.specs.declared.point.Point.{Point}
-use Rattle.flow_rules.specs.declared.group.NumberEnd.{NumberEnd}
+use Rattle.point_exits.specs.declared.group.NumberEnd.{NumberEnd}
 use Rattle.global_cfg.specs.Targets.{end_target, ArePutAfter}
 use Rattle.global_cfg.proofs.PuttingIn.{no_targets, targets_then, more_ends}
 use Rattle.global_cfg.proofs.targets.put_ends.Goals as goal

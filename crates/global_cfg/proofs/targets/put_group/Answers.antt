@@ -1,6 +1,6 @@
 use Rattle.std.proofs.Common.{List, map, sym, subst}
 use Rattle.osek_standard.specs.declared.point.Point.{Point}
-use Rattle.flow_rules.specs.{declared.group.{NumberEnd.{NumberEnd}, Ends.{Ends}}, Groups.{exits_by}}
+use Rattle.point_exits.specs.{declared.group.{NumberEnd.{NumberEnd}, Ends.{Ends}}, Groups.{exits_by}}
 use Rattle.global_cfg.specs.Targets.{end_target, AreEndsPut, ArePutAfter}
 use Rattle.global_cfg.proofs.PuttingIn.{put_at_points, put_with_numbers}
 use Rattle.global_cfg.proofs.targets.put_group.Goals as goal

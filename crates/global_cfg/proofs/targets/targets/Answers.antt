@@ -1,7 +1,7 @@
 use Rattle.std.proofs.{Common.{rules, [], ◌∙◌, List, subst, take}, lemmas.List.{take_all}}
 use Rattle.flow_exits.specs.declared.exit.Exit.{Exit}
-use Rattle.flow_rules.specs.{declared.group.ExitGroup.{ExitGroup}, Groups.{exits_of, all_exits}}
-use Rattle.flow_rules.proofs.{EntryCounts.{filled_numbers}, GroupLaws.{groups_more}}
+use Rattle.point_exits.specs.{declared.group.ExitGroup.{ExitGroup}, Groups.{exits_of, all_exits}}
+use Rattle.point_exits.proofs.{EntryCounts.{filled_numbers}, GroupLaws.{groups_more}}
 use Rattle.numbered_sets.specs.PlainTables.{plain_row}
 use Rattle.numbered_sets.proofs.WrittenRows.{number_domains_of}
 use Rattle.global_cfg.specs.Targets.{AreEndsPut}

@@ -1,6 +1,6 @@
 use Rattle.std.proofs.Common.{List, [], take}
 use Rattle.numbered_sets.specs.Pools.{Values}
-use Rattle.flow_rules.specs.Groups.{all_exits}
+use Rattle.point_exits.specs.Groups.{all_exits}
 use Rattle.global_cfg.specs.Targets.{AreEndsPut}
 use Rattle.global_cfg.proofs.targets.targets.Given as goal
 

@@ -1,8 +1,8 @@
 use Rattle.std.proofs.Common.{◌≡◌, ◌∷◌, [], length, sym, ap, subst, ◌∙◌, arith, get_or-set_same}
 use Rattle.std.proofs.lemmas.List.{length-set}
 use Rattle.numbered_sets.specs.{declared.numbered_entry.NumberedEntry.{NumberedEntry}, Numbers.{Numbers}, NumberedEntries.{no_set, numbers_at}, Views.{plain_entry, AreNumbersOf}, PlainTables.{row_at}}
-use Rattle.flow_rules.specs.{Groups.{with_end}, Rows.{IsProperRow}}
-use Rattle.flow_rules.proofs.{GrowingPools.{end_known}, HeldNumbers.{now_holds, held_back}}
+use Rattle.point_exits.specs.{Groups.{with_end}, Rows.{IsProperRow}}
+use Rattle.point_exits.proofs.{GrowingPools.{end_known}, HeldNumbers.{now_holds, held_back}}
 use Rattle.state_flow.specs.{Progress.{AreJoined}, PlainCells.{plain_cells}}
 use Rattle.state_flow.proofs.joining.join_end.Goals as goal
 

@@ -1,7 +1,7 @@
 use Rattle.std.proofs.Common.{List, sym, subst}
 use Rattle.std.specs.Prelude.{Contains}
 use Rattle.osek_standard.specs.declared.point.Point.{Point}
-use Rattle.flow_rules.specs.{declared.group.{NumberEnd.{NumberEnd}, Ends.{Ends}}, Groups.{AreKnownEnds}}
+use Rattle.point_exits.specs.{declared.group.{NumberEnd.{NumberEnd}, Ends.{Ends}}, Groups.{AreKnownEnds}}
 use Rattle.state_flow.specs.ExitRows.{rows_at, rows_with, rows_by, AreProperRows}
 use Rattle.state_flow.proofs.joining.join_group.Goals as goal
 

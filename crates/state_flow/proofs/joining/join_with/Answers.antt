@@ -1,7 +1,7 @@
 use Rattle.std.proofs.{Common.{◌∷◌, [], take, List, refl, sym, subst, ◌∙◌}, lemmas.List.{take_all}}
 use Rattle.abstract_state.specs.declared.table.TableRow.{TableRow}
 use Rattle.numbered_sets.specs.{declared.numbered_entry.NumberedEntry.{NumberedEntry}, Views.{AreNumbersOf}}
-use Rattle.flow_rules.specs.{declared.group.NumberEnd.{NumberEnd}, Groups.{IsKnownEnd}, Rows.{IsProperRow}}
+use Rattle.point_exits.specs.{declared.group.NumberEnd.{NumberEnd}, Groups.{IsKnownEnd}, Rows.{IsProperRow}}
 use Rattle.state_flow.specs.ExitRows.{end_row, rows_with, AreRowsJoined}
 use Rattle.state_flow.proofs.ExitJoins.{joined_nothing, joined_more, cells_after, end_more, end_proper, end_listed}
 use Rattle.state_flow.proofs.joining.join_with.Goals as goal

@@ -1,6 +1,6 @@
 use Rattle.std.proofs.Common.{◌≡◌, ◌+◌, ◌-◌, ◌*◌, ℕ}
 use Rattle.osek_standard.specs.Counts.{points, height}
-use Rattle.flow_rules.specs.Levels.{AreLevels}
+use Rattle.point_exits.specs.Levels.{AreLevels}
 use Rattle.state_flow.specs.Numbering.{HasProgress}
 use Rattle.state_flow.proofs.least_table.solve.Given as goal
 

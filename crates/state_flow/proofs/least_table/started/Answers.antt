@@ -4,7 +4,7 @@ use Rattle.abstract_state.specs.declared.table.PlainEntry.{PlainEntry}
 use Rattle.numbered_sets.proofs.NumberingLaws.{longer_onward}
 use Rattle.numbered_sets.specs.PlainTables.{row_at}
 use Rattle.state_flow.specs.declared.cells.Cell.{Cell}
-use Rattle.flow_rules.specs.Rows.{IsProperRow}
+use Rattle.point_exits.specs.Rows.{IsProperRow}
 use Rattle.state_flow.specs.Progress.{AreJoined}
 use Rattle.state_flow.proofs.Closing.{started_more, started_all}
 use Rattle.state_flow.specs.PlainCells.{plain_cells}

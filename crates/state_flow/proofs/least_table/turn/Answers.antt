@@ -7,13 +7,16 @@ use Rattle.state_flow.proofs.EvaluatedExits.{its_domains, numbers_filled, rows_l
 use Rattle.state_flow.proofs.least_table.turn.Goals as goal
 
 pub exit_groups-requires-clause-numbers : goal.exit_groups-requires-clause-numbers
-exit_groups-requires-clause-numbers c = numbers_there c.args.app.now c.args.pool.now c.args.cells.now.items c.args.place c.index_mut-cell.result.now c.requires.cells c.requires.waits (sym c.index_mut-cell.ensures.value)
+exit_groups-requires-clause-numbers c =
+    rw c.get.ensures (numbers_there c.args.app.now c.args.pool.now c.args.cells.now.items c.args.place c.index_mut-cell.result.now c.requires.cells c.requires.waits (sym c.index_mut-cell.ensures.value))
 
 pub exit_groups-requires-clause-point : goal.exit_groups-requires-clause-point
 exit_groups-requires-clause-point c = (proper_there c.args.app.now c.args.pool.now c.args.cells.now.items c.args.place c.index_mut-cell.result.now c.requires.cells c.requires.waits (sym c.index_mut-cell.ensures.value)).row.point
 
 pub exit_groups-requires-clause-allowed : goal.exit_groups-requires-clause-allowed
-exit_groups-requires-clause-allowed c = (proper_there c.args.app.now c.args.pool.now c.args.cells.now.items c.args.place c.index_mut-cell.result.now c.requires.cells c.requires.waits (sym c.index_mut-cell.ensures.value)).allowed
+exit_groups-requires-clause-allowed c =
+    rw c.get.ensures
+    (proper_there c.args.app.now c.args.pool.now c.args.cells.now.items c.args.place c.index_mut-cell.result.now c.requires.cells c.requires.waits (sym c.index_mut-cell.ensures.value)).allowed
 
 pub exit_groups-requires-clause-domains : goal.exit_groups-requires-clause-domains
 exit_groups-requires-clause-domains c =
@@ -22,7 +25,7 @@ exit_groups-requires-clause-domains c =
     let cell = c.index_mut-cell.result.now in
     let here = sym c.index_mut-cell.ensures.value in
     let numbers = numbers_there app pool c.args.cells.now.items c.args.place cell c.requires.cells c.requires.waits here in
-    its_domains app c.requires.masks cell.point pool cell.entry numbers (proper_there app pool c.args.cells.now.items c.args.place cell c.requires.cells c.requires.waits here)
+    rw c.get.ensures (its_domains app c.requires.masks cell.point pool cell.entry numbers (proper_there app pool c.args.cells.now.items c.args.place cell c.requires.cells c.requires.waits here))
 
 pub exit_groups-requires-clause-filled : goal.exit_groups-requires-clause-filled
 exit_groups-requires-clause-filled c =
@@ -31,7 +34,7 @@ exit_groups-requires-clause-filled c =
     let cell = c.index_mut-cell.result.now in
     let here = sym c.index_mut-cell.ensures.value in
     let numbers = numbers_there app pool c.args.cells.now.items c.args.place cell c.requires.cells c.requires.waits here in
-    numbers_filled app c.requires.masks cell.point pool cell.entry numbers (proper_there app pool c.args.cells.now.items c.args.place cell c.requires.cells c.requires.waits here)
+    rw c.get.ensures (numbers_filled app c.requires.masks cell.point pool cell.entry numbers (proper_there app pool c.args.cells.now.items c.args.place cell c.requires.cells c.requires.waits here))
 
 pub join_groups-requires-clause-known : goal.join_groups-requires-clause-known
 join_groups-requires-clause-known c = c.in_ok-groups.ensures.known
@@ -44,7 +47,7 @@ join_groups-requires-clause-proper c =
     let here = sym c.index_mut-cell.ensures.value in
     let numbers = numbers_there app pool c.args.cells.now.items c.args.place cell c.requires.cells c.requires.waits here in
     rows_proper app c.requires.masks cell.point pool cell.entry numbers (proper_there app pool c.args.cells.now.items c.args.place cell c.requires.cells c.requires.waits here)
-    c.exit_groups.new.pool c.exit_groups.ensures.pool c.in_ok-groups.groups.items c.in_ok-groups.ensures.known c.in_ok-groups.ensures.exits
+    c.exit_groups.new.pool c.exit_groups.ensures.pool c.in_ok-groups.groups.items c.in_ok-groups.ensures.known (rw c.get.ensures at c.in_ok-groups.ensures.exits)
 
 pub join_groups-requires-clause-cells : goal.join_groups-requires-clause-cells
 join_groups-requires-clause-cells c =
@@ -72,7 +75,7 @@ returns-clause-progress c =
     on_ok_weaker c.join_groups.result
     (λ joined. progress_on app pool cells c.args.place cell c.requires.cells c.requires.waits here after end joined.known (record {
       rows = all_rows after groups;
-      leads = rows_lead app c.requires.masks cell.point pool cell.entry numbers proper after longer groups c.in_ok-groups.ensures.known c.in_ok-groups.ensures.exits;
+      leads = rows_lead app c.requires.masks cell.point pool cell.entry numbers proper after longer groups c.in_ok-groups.ensures.known (rw c.get.ensures at c.in_ok-groups.ensures.exits);
       joined = subst (λ (xs : List (Cell PlainEntry)). AreJoined app xs (all_rows after groups) (plain_cells after end)) (cells_same pool after (set cells c.args.place (asked cell)) longer waits_no_more.known) joined.joined;
     }))
     c.join_groups.ensures

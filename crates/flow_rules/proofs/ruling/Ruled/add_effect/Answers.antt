@@ -7,8 +7,10 @@ use Rattle.flow_model.specs.{declared.{case.OutcomeCase.{OutcomeCase}, change.Ch
 use Rattle.numbered_sets.specs.{declared.numbered_entry.NumberedEntry.{NumberedEntry}, Views.{plain_entry}}
 use Rattle.numbered_sets.proofs.ViewLaws.{same_domains}
 use Rattle.flow_exits.specs.Leaving.{effect_rule}
-use Rattle.flow_rules.specs.{Assembly.{rule_of}, declared.group.ExitGroup.{ExitGroup}, Groups.{all_exits, AreKnownGroups}, Deciding.{AddsFor, IsAny}, Leaving.{IsAfter}, Ruling.{outcomes_by}}
-use Rattle.flow_rules.proofs.{EntryCounts.{sets_counted}, RuledExits.{exits_ruled, none_ruled}, SettledGroups.{decided_known}}
+use Rattle.flow_rules.specs.{Assembly.{rule_of}, Ruling.{outcomes_by}}
+use Rattle.point_exits.specs.{declared.group.ExitGroup.{ExitGroup}, Groups.{all_exits, AreKnownGroups}, Deciding.{AddsFor, IsAny}, Leaving.{IsAfter}}
+use Rattle.flow_rules.proofs.RuledExits.{exits_ruled, none_ruled}
+use Rattle.point_exits.proofs.{EntryCounts.{sets_counted}, SettledGroups.{decided_known}}
 use Rattle.flow_rules.proofs.ruling.Ruled.add_effect.Goals as goal
 
 pub outcomes-requires : goal.outcomes-requires

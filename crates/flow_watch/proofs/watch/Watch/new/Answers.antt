@@ -12,6 +12,9 @@ returns-in_err-entries-clause-quiet c = quiet_run c.args.app (sets_of c.args.tab
 pub returns-in_err-edges-clause-quiet : goal.returns-in_err-edges-clause-quiet
 returns-in_err-edges-clause-quiet c = quiet_run c.args.app (sets_of c.args.table.now) c.requires.least.inductive
 
+pub returns-in_err-hints-clause-quiet : goal.returns-in_err-hints-clause-quiet
+returns-in_err-hints-clause-quiet c = quiet_run c.args.app (sets_of c.args.table.now) c.requires.least.inductive
+
 pub invariant_of-result : goal.invariant_of-result
 invariant_of-result c = record {
   in_order = subst AreInOrder (sym c.in_ok-entries.ensures) (in_order c.args.app c.args.table.now c.requires.written);

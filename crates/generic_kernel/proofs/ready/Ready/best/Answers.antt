@@ -41,16 +41,17 @@ few_tasks : (app : App) (s : State) (n : ℕ) → Well app s → 16 ≤ n → le
 few_tasks app s n w e = omega (arith, w.tasks_len, app.valid.few_tasks, e)
 
 pub loop-task-init : goal.loop-task-init
-loop-task-init g c = record { below = tt; best = λ app ready u h. absurd (omega (arith, h)); scans = λ app ready. refl }
+loop-task-init g c = record { below = tt; has = tt; highest = λ app ready u h. absurd (omega (arith, h)); scans = λ app ready. refl }
 
 pub loop-task-preserved : goal.loop-task-preserved
 loop-task-preserved g c = record {
-  below = c.better-found.ensures.below;
-  best = λ app ready. c.better-found.ensures.best app ready (c.loop-task.invariant.best app ready);
+  below = c.higher-found.ensures.below;
+  has = c.higher-found.ensures.has;
+  highest = λ app ready. c.higher-found.ensures.highest app c.args.state.now ready (c.loop-task.invariant.highest app ready);
   scans = λ app ready. omega (
     arith,
     c.loop-task.invariant.scans app ready,
-    c.better-found.ensures.scans,
+    c.higher-found.ensures.scans,
     ap count_of (ready c.loop-task.task),
     count_more app c.args.state.now c.loop-task.task,
   );
@@ -58,21 +59,22 @@ loop-task-preserved g c = record {
 
 pub returns-clause-best : goal.returns-clause-best
 returns-clause-best g c app w ready = let s = c.args.state.now in
-    best_of_all app s c.loop-task.task (few_tasks app s c.loop-task.task w c.loop-task-test.false) c.loop-task.found (c.loop-task.invariant.best app ready)
+    best_of_all app s c.loop-task.task (few_tasks app s c.loop-task.task w c.loop-task-test.false) c.chosen.result (c.chosen.ensures.best app c.loop-task.task ready (c.loop-task.invariant.highest app ready))
 
 pub returns-clause-none : goal.returns-clause-none
 returns-clause-none g c app w ready = let s = c.args.state.now in
-    none_of_all app s c.loop-task.found (best_of_all app s c.loop-task.task (few_tasks app s c.loop-task.task w c.loop-task-test.false) c.loop-task.found
-    (c.loop-task.invariant.best app ready))
+    none_of_all app s c.chosen.result (best_of_all app s c.loop-task.task (few_tasks app s c.loop-task.task w c.loop-task-test.false) c.chosen.result
+    (c.chosen.ensures.best app c.loop-task.task ready (c.loop-task.invariant.highest app ready)))
 
 pub returns-clause-live : goal.returns-clause-live
-returns-clause-live g c app w ready = let s = c.args.state.now in has_processor app s c.loop-task.task w c.loop-task.found (c.loop-task.invariant.best app ready)
+returns-clause-live g c app w ready = let s = c.args.state.now in has_processor app s c.loop-task.task w c.chosen.result (c.chosen.ensures.best app c.loop-task.task ready (c.loop-task.invariant.highest app ready))
 
 pub returns-clause-scans : goal.returns-clause-scans
 returns-clause-scans g c app w ready = let s = c.args.state.now in
     omega (
       arith,
       c.loop-task.invariant.scans app ready,
+      c.chosen.ensures.some,
       ap (count_by is_live) (take_all c.loop-task.task s.tasks (few_tasks app s c.loop-task.task w c.loop-task-test.false)),
     )
 
@@ -81,6 +83,7 @@ returns-clause-few g c app w ready = let s = c.args.state.now in
     omega (
       arith,
       c.loop-task.invariant.scans app ready,
+      c.chosen.ensures.some,
       ap (count_by is_live) (take_all c.loop-task.task s.tasks (few_tasks app s c.loop-task.task w c.loop-task-test.false)),
       count_by-le-length is_live s.tasks,
       w.tasks_len,

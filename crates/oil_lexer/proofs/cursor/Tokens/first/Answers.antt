@@ -13,17 +13,17 @@ pub from_line-requires-clause-ahead : goal.from_line-requires-clause-ahead
 from_line-requires-clause-ahead c =
     let is = rw c.in-Whole.is at c.in-Ok.ensures in
     let lines : c.loop-rest.line + c.line_ends.result ≡ c.loop-rest.line + line_ends (take c.in-Ok.len c.loop-rest.rest.now) = rw (c.line_ends.ensures.value, c.split_at.ensures.front) in
-    behind c.in-Whole.kind c.in-Ok.len is.0 is.1 c.loop-rest.invariant.ahead lines c.split_at.ensures.back
+    behind c.in-Whole.kind c.in-Ok.len is c.loop-rest.invariant.ahead lines c.split_at.ensures.back
 
 pub returns-in-Whole : goal.returns-in-Whole
 returns-in-Whole c =
     let is = rw c.in-Whole.is at c.in-Ok.ensures in
     let lines : c.loop-rest.line + c.line_ends.result ≡ c.loop-rest.line + line_ends (take c.in-Ok.len c.loop-rest.rest.now) = rw (c.line_ends.ensures.value, c.split_at.ensures.front) in
-    with_first c.in-Whole.kind c.in-Ok.len is.0 is.1 c.loop-rest.invariant.ahead lines c.split_at.ensures.back c.from_line.ensures
+    with_first c.in-Whole.kind c.in-Ok.len is c.loop-rest.invariant.ahead lines c.split_at.ensures.back c.from_line.ensures
 
 pub loop-rest-preserved : goal.loop-rest-preserved
 loop-rest-preserved c = record {
-  ahead = rw (c.line_ends.ensures.value, c.split_at.ensures.front, c.split_at.ensures.back) (past_gap c.in-Ok.piece c.in-Ok.len c.in_default-piece.not-Whole c.in-Ok.ensures.0 c.loop-rest.invariant.ahead);
+  ahead = rw (c.line_ends.ensures.value, c.split_at.ensures.front, c.split_at.ensures.back) (past_gap c.in-Ok.piece c.in-Ok.len c.in_default-piece.not-Whole c.in-Ok.ensures c.loop-rest.invariant.ahead);
   lines = omega arith;
   first = omega arith;
 }

@@ -1,0 +1,3 @@
+pub mod KernelImages
+pub mod SomeVerdict
+pub mod SomeCheck

@@ -1,5 +1,0 @@
-use Rattle.flow_rules.specs.Narrowing.{AreNeeds}
-use Rattle.flow_rules.proofs.after_effect.AfterEffect.needs.Given as goal
-
-abbrev pub invariant-loop-task : goal.invariant-loop-task
-invariant-loop-task l = AreNeeds l.self.app.now l.self.pool.now l.self.after l.task l.needs

@@ -1,5 +1,0 @@
-use Rattle.flow_rules.proofs.WholeLaws.{vacant_by}
-use Rattle.flow_rules.proofs.after_effect.AfterEffect.push_decided.Goals as goal
-
-pub push_vacant-requires-clause-vacant : goal.push_vacant-requires-clause-vacant
-push_vacant-requires-clause-vacant c = vacant_by c.args.self.leaving.asked c.in-Left.is

@@ -1,6 +1,0 @@
-use Rattle.std.proofs.Common.{◌≡◌, false}
-use Rattle.flow_rules.specs.Changing.{is_named}
-use Rattle.flow_rules.proofs.applying.is_named.Given as goal
-
-abbrev pub invariant-loop-earlier : goal.invariant-loop-earlier
-invariant-loop-earlier l = is_named l.changes l.earlier l.component ≡ false

@@ -1,6 +1,0 @@
-use Rattle.std.proofs.Common.{◌≡◌, map, take}
-use Rattle.flow_rules.proofs.StartEntry.{set_of}
-use Rattle.flow_rules.proofs.state_row.entry_of.Given as goal
-
-abbrev pub invariant-loop-component : goal.invariant-loop-component
-invariant-loop-component l = l.sets.items ≡ map (set_of l.app l.state) (take l.component-index l.component-items)

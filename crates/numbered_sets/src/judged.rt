@@ -1,0 +1,159 @@
+//! Tests that a component's values were asked, each asked of a value once.
+ghost use Rattle.std.specs.{Prelude.{◌≡◌}, Bool.{OnTrue}};
+
+use crate::numbered_set::NumberedSet;
+use crate::passing::Judged;
+use crate::seen_values::SeenValues;
+use abstract_state::Domain;
+use flow_model::Test;
+use osek_values::{Memory, Seq};
+use std::alloc::Global;
+
+/// A test, and the numbers of those of the first values that pass it.
+#[derive(Drop)]
+pub struct JudgedTest {
+    pub test: Test,
+    /// How many values were asked.
+    pub judged: usize,
+    pub passing: NumberedSet,
+}
+
+/// The tests that values of one domain were asked.
+#[derive(Drop)]
+pub struct JudgedTests {
+    pub tests: Seq<JudgedTest>,
+}
+
+impl JudgedTest {
+    ghost use Rattle.std.specs.Prelude.{List, ◌≡◌, ◌<◌, ◌+◌, ◌^◌, length, IfOk, IfSome, OnOk};
+    ghost use Rattle.abstract_state.specs.declared.value.PartValue.{PartValue};
+    ghost use Rattle.numbered_sets.specs.Passing.{IsJudged};
+    ghost use Rattle.numbered_sets.specs.Judging.{IsJudgedTest};
+
+    /// No value was asked yet.
+    pub fn new(alloc: Global, domain: Domain, test: &Test) -> JudgedTest
+        ensures test { result.test ≡ test.now }
+        ensures judged { (values : List PartValue) → IsJudgedTest values result }
+    {
+        JudgedTest {
+            test: test.copy(),
+            judged: 0,
+            passing: NumberedSet::new(alloc, domain),
+        }
+    }
+
+    /// Asks the values that came in since the last time.
+    pub fn renew(&mut self, seen: &SeenValues) -> Result<(), Memory>
+        requires { IsJudgedTest seen.now.values self.old }
+        ensures judged { IsJudgedTest seen.now.values self.new }
+        ensures test { self.new.test ≡ self.old.test }
+        ensures all { OnOk result (self.new.judged ≡ length seen.now.values) }
+    {
+        let mut last = None;
+        for _number in self.judged..seen.len() {
+            last = Some(self.judge_next(seen, last)?);
+        }
+        Ok(())
+    }
+
+    // asks the next value
+    fn judge_next(&mut self, seen: &SeenValues, last: Option<Judged>) -> Result<Judged, Memory>
+        requires next { self.old.judged < length seen.now.values }
+        requires room { self.old.judged + 1 < 2 ^ 64 }
+        requires last { IfSome last (IsJudged seen.now.values self.old.test) }
+        requires judged { IsJudgedTest seen.now.values self.old }
+        ensures judged { IsJudgedTest seen.now.values self.new }
+        ensures test { self.new.test ≡ self.old.test }
+        ensures next { OnOk result (self.new.judged ≡ self.old.judged + 1) }
+        ensures last { IfOk result (IsJudged seen.now.values self.old.test) }
+    {
+        let number = self.judged;
+        let judged = seen.judge(&self.test, number, last);
+        if judged.passes {
+            self.passing.put(number)?;
+        }
+        self.judged = number + 1;
+        Ok(judged)
+    }
+}
+
+impl JudgedTests {
+    ghost use Rattle.std.specs.Prelude.{◌≡◌, ◌<◌, [], length, slice_index_or, IfOk, IfSome};
+    ghost use Rattle.numbered_sets.specs.{declared.judged.JudgedTest.{JudgedTest}, Judging.{AreJudgedTests, IsAskedAt, HasTestAt}};
+
+    /// No test was asked yet.
+    pub fn new(alloc: Global) -> JudgedTests
+        ensures { result.tests ≡ [] }
+    {
+        JudgedTests {
+            tests: Seq::new(alloc),
+        }
+    }
+
+    /// Asks a test of all values, and tells at which place it stands.
+    pub fn ask(&mut self, alloc: Global, seen: &SeenValues, test: &Test) -> Result<usize, Memory>
+        requires { AreJudgedTests seen.now.values self.old.tests }
+        ensures judged { AreJudgedTests seen.now.values self.new.tests }
+        ensures asked { IfOk result (IsAskedAt seen.now.values test.now self.new.tests) }
+    {
+        let place = self.place_for(alloc, seen, test)?;
+        let judged = self.tests.at_mut(place);
+        judged.renew(seen)?;
+        Ok(place)
+    }
+
+    // the place of a test, which comes in last where it is new
+    fn place_for(&mut self, alloc: Global, seen: &SeenValues, test: &Test) -> Result<usize, Memory>
+        requires { AreJudgedTests seen.now.values self.old.tests }
+        ensures judged { AreJudgedTests seen.now.values self.new.tests }
+        ensures place { IfOk result (HasTestAt test.now self.new.tests) }
+    {
+        if let Some(place) = self.place_of(test) {
+            return Ok(place);
+        }
+        self.tests
+            .push(JudgedTest::new(alloc, seen.domain(), test))?;
+        Ok(self.tests.len() - 1)
+    }
+
+    // the place of a test that was asked
+    fn place_of(&self, test: &Test) -> Option<usize>
+        ensures { IfSome result (HasTestAt test.now self.now.tests) }
+    {
+        for place in 0..self.tests.len() {
+            if are_same(&self.tests.at(place).test, test) {
+                return Some(place);
+            }
+        }
+        None
+    }
+
+    /// The numbers of the values that pass the test at a place.
+    pub fn passing(&self, place: usize) -> &NumberedSet
+        requires { place < length self.now.tests }
+        ensures { (none : JudgedTest) → (slice_index_or self.now.tests place none).passing ≡ result.now }
+    {
+        &self.tests.at(place).passing
+    }
+}
+
+// whether two tests are seen to be the same; those that name a value are not looked at
+fn are_same(one: &Test, other: &Test) -> bool
+    ensures { OnTrue result (one.now ≡ other.now) }
+{
+    match (one, other) {
+        (Test::Suspended, Test::Suspended) => true,
+        (Test::NotSuspended, Test::NotSuspended) => true,
+        (Test::Holds(one), Test::Holds(other)) => one == other,
+        (Test::HoldsNoneOf(one), Test::HoldsNoneOf(other)) => one == other,
+        (Test::HoldsSome, Test::HoldsSome) => true,
+        (Test::HoldsNothing, Test::HoldsNothing) => true,
+        (Test::OnTop(one), Test::OnTop(other)) => one == other,
+        (Test::NotOnTop(one), Test::NotOnTop(other)) => one == other,
+        (Test::Full(one), Test::Full(other)) => one == other,
+        (Test::Room(one), Test::Room(other)) => one == other,
+        (Test::NoFurther, Test::NoFurther) => true,
+        (Test::SomeFurther, Test::SomeFurther) => true,
+        _ => false,
+    }
+}

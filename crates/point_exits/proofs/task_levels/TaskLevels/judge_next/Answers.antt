@@ -1,0 +1,21 @@
+use Rattle.std.proofs.{Common.{ℕ, ◌+◌, false, get_or, subst}, lemmas.List.{get_or_default}}
+use Rattle.abstract_state.specs.declared.value.PartValue.TheVariants.{OfEvent}
+use Rattle.numbered_sets.specs.Pools.{values_at, IsNumberOf}
+use Rattle.point_exits.specs.{declared.task_levels.Level.{Level}, Levels.{IsLiveAt, AreTaskLevels}}
+use Rattle.point_exits.proofs.task_levels.TaskLevels.judge_next.Goals as goal
+
+pub returns-in-Some-clause-levels : goal.returns-in-Some-clause-levels
+returns-in-Some-clause-levels c =
+    let app = c.args.app.now in
+    let pool = c.args.pool.now in
+    let u = c.args.task.0 in
+    let x = c.args.self.now in
+    let y = c.put_at.new.self in
+    let vs = values_at pool u in
+    let v = get_or vs x.judged (OfEvent false) in
+    let is : IsNumberOf vs v x.judged = record { known = c.requires.next; is = λ d. get_or_default vs x.judged d (OfEvent false) c.requires.next } in
+    let IsThere : ℕ → Type 0 =
+    λ k. (d : Level) → AreTaskLevels app u (values_at pool k) x → IsNumberOf (values_at pool k) v x.judged → IsLiveAt app u (get_or x.levels c.in-Some.place d).priority v in
+    let there : IsThere u = subst IsThere c.index-component.ensures (λ d. c.in-Some.ensures.level app u d v) in
+    subst (λ (n : ℕ). AreTaskLevels app u vs (record { judged = n + 1; dead = y.dead; levels = y.levels })) c.in_ok-put_at.ensures.judged
+    (c.in_ok-put_at.ensures.levels app u vs v c.requires.levels is (λ d. there d c.requires.levels is))

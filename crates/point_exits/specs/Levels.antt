@@ -1,0 +1,118 @@
+-- The values of tasks by what the scheduler reads of them.
+use Rattle.std.specs.Prelude.{◌≡◌, ◌≢◌, ◌⊎◌, ℕ, ◌<◌, ◌≤◌, ◌+◌, ◌&&◌, Bool, false, List, [], length, map, slice_index_or, slice_set, IsTrue, is_some, Contains}
+use Rattle.osek_values.specs.{Numbers.{task_no}, declared.numbers.TaskNo.{TaskNo}}
+use Rattle.osek_standard.specs.{declared.app.App.{App}, Internal.{internal_of}}
+use Rattle.abstract_state.specs.declared.value.Component.TheVariants as component
+use Rattle.abstract_state.specs.{declared.value.PartValue.{PartValue}, Concrete.{val_of}, Domains.{domain_of}}
+use Rattle.flow_model.specs.declared.change.Update.TheVariants as update
+use Rattle.flow_model.specs.{Values.{is_live_value, value_priority}, Tests.{updated}}
+use Rattle.numbered_sets.specs.{declared.numbered_entry.NumberedEntry.{NumberedEntry}, Numbers.{Numbers, has_number, meets}, NumberedEntries.{numbers_at}}
+use Rattle.numbered_sets.specs.Pools.{Values, values_at, domain_at, IsNumberOf}
+use Rattle.flow_exits.specs.Claims.{is_below}
+use Rattle.point_exits.specs.declared.{insides.Insides.{Insides}, task_levels.{Level.{Level}, TaskLevels.{TaskLevels}}, levels.Levels.{Levels}}
+use Rattle.point_exits.specs.Arrivals.{AreKnownArrivals}
+
+-- with this value task u is Live, at this current priority
+pub record IsLiveAt (app : App) (u p : ℕ) (v : PartValue) : Type 0 where
+  pub live : IsTrue (is_live_value (val_of v))
+  pub priority : value_priority app u (val_of v) ≡ p
+
+-- the numbers are those of values with a property, among the first ones
+abbrev pub AreOf : (PartValue → Type 0) → List PartValue → ℕ → Numbers → Type 0
+AreOf P vs judged x = (n : ℕ) (d : PartValue) → IsTrue (has_number x n) → (n < judged) × P (slice_index_or vs n d)
+
+abbrev pub IsDead : PartValue → Type 0
+IsDead v = is_live_value (val_of v) ≡ false
+
+abbrev pub IsLevel : App → ℕ → List PartValue → ℕ → Level → Type 0
+IsLevel app u vs judged x = AreOf (IsLiveAt app u x.priority) vs judged x.numbers
+
+pub record HasLevel (levels : List Level) (n : ℕ) : Type 0 where
+  pub level : Level
+  pub listed : Contains levels level
+  pub has : IsTrue (has_number level.numbers n)
+
+-- The first values of task u, by what the scheduler reads of them: each is dead or at a level.
+pub record AreTaskLevels (app : App) (u : ℕ) (vs : List PartValue) (x : TaskLevels) : Type 0 where
+  pub few : x.judged ≤ length vs
+  pub dead : AreOf IsDead vs x.judged x.dead
+  pub levels : (level : Level) → Contains x.levels level → IsLevel app u vs x.judged level
+  pub whole : (n : ℕ) → n < x.judged → IsTrue (has_number x.dead n) ⊎ HasLevel x.levels n
+
+-- the next value was judged too
+abbrev pub with_next : TaskLevels → TaskLevels
+with_next x = record x { judged = x.judged + 1 }
+
+-- the first values of a task, each with the number of the same value inside
+pub record AreInside (vs : List PartValue) (x : Insides) : Type 0 where
+  pub few : length x.numbers ≤ length vs
+  pub each : (n : ℕ) (v : PartValue) → n < length x.numbers → IsNumberOf vs v n → IsNumberOf vs (updated update.Inside v) (slice_index_or x.numbers n 0)
+
+abbrev pub inside_tasks : List Insides → List TaskNo
+inside_tasks insides = map (λ (x : Insides). x.task) insides
+
+-- of the tasks below n those that name an INTERNAL resource, none twice
+pub record AreNaming (app : App) (n : ℕ) (tasks : List TaskNo) : Type 0 where
+  pub each : (t : TaskNo) → Contains tasks t → (t.0 < n) × IsTrue (is_some (internal_of app t.0))
+  pub some : (t : ℕ) → t < n → IsTrue (is_some (internal_of app t)) → Contains tasks (task_no t)
+  pub once : (i j : ℕ) (d e : TaskNo) → i < j → j < length tasks → (slice_index_or tasks i d).0 ≢ (slice_index_or tasks j e).0
+
+-- nothing was seen yet of these tasks
+pub record AreNoInsides (app : App) (insides : List Insides) : Type 0 where
+  pub tasks : AreNaming app (length app.tasks) (inside_tasks insides)
+  pub none : (i : ℕ) (d : Insides) → i < length insides → (slice_index_or insides i d).numbers ≡ []
+
+-- the values inside of the tasks that name an INTERNAL resource; some that came in since the last time may be missing
+pub record AreInsides (app : App) (pool : List Values) (insides : List Insides) : Type 0 where
+  pub tasks : AreNaming app (length app.tasks) (inside_tasks insides)
+  pub each : (i : ℕ) (d : Insides) → i < length insides → AreInside (values_at pool (slice_index_or insides i d).task.0) (slice_index_or insides i d)
+
+-- none is missing
+abbrev pub AreAllInside : List Values → List Insides → Type 0
+AreAllInside pool insides = (i : ℕ) (d : Insides) → i < length insides → length (slice_index_or insides i d).numbers ≡ length (values_at pool (slice_index_or insides i d).task.0)
+
+-- the values of each task are those of its domain
+abbrev pub HaveTaskDomains : App → List Values → Type 0
+HaveTaskDomains app pool = (t : ℕ) → t < length app.tasks → domain_at pool t ≡ domain_of app (component.Task (task_no t))
+
+module _ (app : App) (pool : List Values) (levels : Levels) where
+  -- So it is for each task. Values that came in since the last time may be missing.
+  pub record AreLevels : Type 0 where
+    pub size : length levels.tasks ≡ length app.tasks
+    pub each : (u : ℕ) (d : TaskLevels) → u < length app.tasks → AreTaskLevels app u (values_at pool u) (slice_index_or levels.tasks u d)
+    pub insides : AreInsides app pool levels.insides
+    pub arrivals : AreKnownArrivals app levels.arrivals.known
+
+  -- All values of the pool are there.
+  pub record AreAllLevels : Type 0 where
+    pub are : AreLevels
+    pub all : (u : ℕ) (d : TaskLevels) → u < length app.tasks → (slice_index_or levels.tasks u d).judged ≡ length (values_at pool u)
+    pub inside : AreAllInside pool levels.insides
+
+-- some level that has one of these numbers is below the limit
+pub record HasLevelBelow (levels : List Level) (x : Numbers) (limit : ℕ) : Type 0 where
+  pub level : Level
+  pub listed : Contains levels level
+  pub meets : IsTrue (meets x level.numbers)
+  pub below : level.priority < limit
+
+-- some value of these numbers is below the limit, or not Live
+pub record HasBelow (app : App) (u limit : ℕ) (vs : List PartValue) (x : Numbers) : Type 0 where
+  pub number : ℕ
+  pub has : IsTrue (has_number x number)
+  pub below : (d : PartValue) → IsTrue (is_below app u limit (val_of (slice_index_or vs number d)))
+
+-- The least limit under which the task is with one of these values.
+pub record IsLeastLimit (app : App) (u : ℕ) (vs : List PartValue) (x : Numbers) (need : ℕ) : Type 0 where
+  pub least : (limit : ℕ) → HasBelow app u limit vs x → need ≤ limit
+  pub enough : (n : ℕ) → IsTrue (has_number x n) → HasBelow app u need vs x
+
+-- The numbers are left that pass, of one component alone.
+pub record IsNarrowed (passes : PartValue → Bool) (pool : List Values) (c : ℕ) (entry after : NumberedEntry) : Type 0 where
+  pub rest : after.sets ≡ slice_set entry.sets c (numbers_at after c)
+  pub domain : (numbers_at after c).domain ≡ (numbers_at entry c).domain
+  pub each : (n : ℕ) (d : PartValue) → has_number (numbers_at after c) n ≡ (has_number (numbers_at entry c) n && passes (slice_index_or (values_at pool c) n d))
+
+-- each of the numbers was judged
+abbrev pub AreAllJudged : TaskLevels → Numbers → Type 0
+AreAllJudged levels x = (n : ℕ) → IsTrue (has_number x n) → n < levels.judged

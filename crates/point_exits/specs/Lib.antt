@@ -1,0 +1,14 @@
+pub mod Arrivals
+pub mod Levels
+pub mod Passing
+pub mod Applying
+pub mod Changing
+pub mod Sifting
+pub mod Groups
+pub mod Narrowing
+pub mod Deciding
+pub mod Settling
+pub mod AfterEffect
+pub mod Leaving
+pub mod Rows
+pub mod Starts

@@ -1,0 +1,365 @@
+//! The rules by which routines begin, and the exits of a point by them.
+ghost use Rattle.std.specs.{Prelude.{◌≡◌, [], None, ◌<◌, true, List, length, slice_index_or, IfOk, OnOk, IfSome}, Bool.{OnTrue}};
+ghost use Rattle.osek_standard.specs.declared.{app.App.{App}, point.Point.{Point}};
+ghost use Rattle.abstract_state.specs.Domains.{domains_of};
+ghost use Rattle.flow_model.specs.declared.{change.Change.{Change}, rule.Rule.{Rule}};
+ghost use Rattle.numbered_sets.specs.{NumberedEntries.{number_domains, AreFilled}, Pools.{Values, values_at, IsNumberOf, IsLonger}};
+ghost use Rattle.numbered_sets.specs.Views.{plain_entry, AreNumbersOf};
+ghost use Rattle.flow_exits.specs.Arrivals.{IsArrivalRule, AreArrivals};
+ghost use Rattle.point_exits.specs.{Applying.{KeepsDomains, IsAloneIn}, Groups.{AreKnownGroups}};
+ghost use Rattle.point_exits.specs.Leaving.{AddsRoutines, AddsEnd, IsSetEnd, IsAmongFirst, AreSharedEnds, is_bare as is_bare_of};
+
+use crate::changes::{apply, updated};
+use crate::group::{Ends, ExitGroup, NumberEnd};
+use crate::levels::Levels;
+use abstract_state::{PartValue, Point};
+use flow_exits::{arrivals, arrivals_over};
+use flow_model::{Rule, Runner, Update};
+use numbered_sets::{NumberedEntry, NumberedSet, Pool};
+use osek_standard::App;
+use osek_values::{Memory, Seq, SourceNo, TaskNo};
+use std::alloc::Global;
+
+/// The rules by which routines begin over a task or over none, where this routine runs or none.
+#[derive(Drop)]
+pub struct ArrivalsOver {
+    pub over: Option<TaskNo>,
+    pub running: Option<SourceNo>,
+    pub rules: Seq<Rule>,
+}
+
+/// These rules over each over whom they were asked for.
+#[derive(Drop)]
+pub struct Arrivals {
+    pub known: Seq<ArrivalsOver>,
+}
+
+/// A point with the numbers of its values.
+#[derive(Clone, Copy)]
+pub struct NumberedPoint<'a> {
+    pub app: &'a App,
+    pub point: Point,
+    pub entry: &'a NumberedEntry,
+}
+
+impl Arrivals {
+    ghost use Rattle.std.specs.Prelude.{◌≡◌, ◌<◌, [], length, slice_index_or, IfOk, OnOk, IfSome};
+    ghost use Rattle.osek_standard.specs.{Apps.{source_count}, Points.{IsPoint}};
+    ghost use Rattle.point_exits.specs.Arrivals.{AreKnownArrivals, AreArrivalsAt, IsOver};
+
+    /// None were asked for yet.
+    pub fn new(alloc: Global) -> Arrivals
+        ensures { result.known ≡ [] }
+    {
+        Arrivals {
+            known: Seq::new(alloc),
+        }
+    }
+
+    /// The place of the rules of a point. There is none where no routine begins.
+    pub fn find(&mut self, alloc: Global, app: &App, point: Point) -> Result<Option<usize>, Memory>
+        requires point { IsPoint app.now point }
+        requires known { AreKnownArrivals app.now self.old.known }
+        ensures known { OnOk result (AreKnownArrivals app.now self.new.known) }
+        ensures found { IfOk result (λ place. IfSome place (AreArrivalsAt app.now point self.new.known)) }
+    {
+        match point {
+            Point::Halted => Ok(None),
+            Point::Idle => {
+                let place = self.find_over(alloc, app, None, None)?;
+                Ok(Some(place))
+            }
+            Point::Task(block) => {
+                if app.block(block).locked {
+                    return Ok(None);
+                }
+                match Runner::executing(app, point) {
+                    Some(Runner::Task(task)) => {
+                        let place = self.find_over(alloc, app, Some(task), None)?;
+                        Ok(Some(place))
+                    }
+                    Some(Runner::Routine { .. }) | None => Ok(None),
+                }
+            }
+            Point::Routine { block, over } => {
+                if app.block(block).locked {
+                    return Ok(None);
+                }
+                match Runner::executing(app, point) {
+                    Some(Runner::Routine { source, .. }) => {
+                        let place = self.find_over(alloc, app, over, Some(source))?;
+                        Ok(Some(place))
+                    }
+                    Some(Runner::Task(_)) | None => Ok(None),
+                }
+            }
+        }
+    }
+
+    // the place of the rules over a task or over none, where this routine runs or none
+    fn find_over(
+        &mut self,
+        alloc: Global,
+        app: &App,
+        over: Option<TaskNo>,
+        running: Option<SourceNo>,
+    ) -> Result<usize, Memory>
+        requires running { IfSome running (λ k. k.0 < source_count app.now) }
+        requires known { AreKnownArrivals app.now self.old.known }
+        ensures known { OnOk result (AreKnownArrivals app.now self.new.known) }
+        ensures found { IfOk result (IsOver over running self.new.known) }
+    {
+        for place in 0..self.known.len() {
+            let known = self.known.at(place);
+            if known.over == over && known.running == running {
+                return Ok(place);
+            }
+        }
+        let rules = arrivals_over(alloc, app, over, running)?;
+        self.known.push(ArrivalsOver {
+            over,
+            running,
+            rules,
+        })?;
+        Ok(self.known.len() - 1)
+    }
+
+    /// The rules at a place.
+    pub fn at(&self, place: usize) -> &Seq<Rule>
+        requires { place < length self.now.known }
+        ensures { (none : ArrivalsOver) → (slice_index_or self.now.known place none).rules ≡ result.now }
+    {
+        &self.known.at(place).rules
+    }
+}
+
+impl<'a> NumberedPoint<'a> {
+    ghost use Rattle.std.specs.Prelude.{◌≡◌, OnOk};
+    ghost use Rattle.osek_standard.specs.Points.{IsPoint};
+    ghost use Rattle.abstract_state.specs.Domains.{domains_of};
+    ghost use Rattle.flow_model.specs.Effects.{AreAllAllowed};
+    ghost use Rattle.numbered_sets.specs.{NumberedEntries.{number_domains, AreFilled}, Pools.{IsLonger}, Views.{plain_entry, AreNumbersOf}};
+    ghost use Rattle.flow_exits.specs.Arrivals.{AreArrivals};
+    ghost use Rattle.point_exits.specs.{Levels.{AreLevels}, Groups.{AreKnownGroups}, Leaving.{AddsArrivals}};
+
+    /// Adds the exits by which routines begin, each with what its rule makes of the values that pass. The pool grows by the
+    /// values that it lacks, also where memory is wanted.
+    pub fn push_arrivals(
+        &self,
+        alloc: Global,
+        pool: &mut Pool,
+        levels: &mut Levels,
+        groups: &mut Vec<ExitGroup>,
+    ) -> Result<(), Memory>
+        requires point { IsPoint self.now.app.now self.now.point }
+        requires numbers { AreNumbersOf pool.old self.now.entry.now }
+        requires domains { number_domains self.now.entry.now ≡ domains_of self.now.app.now }
+        requires filled { AreFilled self.now.entry.now }
+        requires allowed { AreAllAllowed self.now.app.now self.now.point (plain_entry pool.old self.now.entry.now) }
+        requires levels { AreLevels self.now.app.now pool.old levels.old }
+        requires known { AreKnownGroups pool.old groups.old.items }
+        ensures pool { IsLonger pool.old pool.new }
+        ensures levels { OnOk result (AreLevels self.now.app.now pool.new levels.new) }
+        ensures added { OnOk result (AddsArrivals self.now.app.now self.now.point (plain_entry pool.old self.now.entry.now) pool.old groups.old.items pool.new groups.new.items) }
+    {
+        match levels.arrivals.find(alloc, self.app, self.point)? {
+            Some(place) => self.push_begun(alloc, levels.arrivals.at(place), pool, groups),
+            None => {
+                let rules = arrivals(alloc, self.app, self.point)?;
+                self.push_begun(alloc, &rules, pool, groups)
+            }
+        }
+    }
+
+    // adds the exits by these rules, which are all by which routines begin
+    fn push_begun(
+        &self,
+        alloc: Global,
+        rules: &Seq<Rule>,
+        pool: &mut Pool,
+        groups: &mut Vec<ExitGroup>,
+    ) -> Result<(), Memory>
+        requires point { IsPoint self.now.app.now self.now.point }
+        requires rules { AreArrivals self.now.app.now self.now.point rules.now }
+        requires numbers { AreNumbersOf pool.old self.now.entry.now }
+        requires domains { number_domains self.now.entry.now ≡ domains_of self.now.app.now }
+        requires filled { AreFilled self.now.entry.now }
+        requires allowed { AreAllAllowed self.now.app.now self.now.point (plain_entry pool.old self.now.entry.now) }
+        requires known { AreKnownGroups pool.old groups.old.items }
+        ensures pool { IsLonger pool.old pool.new }
+        ensures added { OnOk result (AddsArrivals self.now.app.now self.now.point (plain_entry pool.old self.now.entry.now) pool.old groups.old.items pool.new groups.new.items) }
+    {
+        // the routines that begin with all values share one entry
+        let mut shared = Seq::new(alloc);
+        for rule in rules.as_slice() {
+            if is_bare(rule) {
+                push_end(alloc, rule, pool, self.entry, &mut shared)?;
+            } else {
+                push_arrival(alloc, rule, pool, self.entry, groups)?;
+            }
+        }
+        push_shared(alloc, self.entry, shared, groups)?;
+        Ok(())
+    }
+}
+
+// adds the exit by which a routine begins, if its rule takes a value of each component
+fn push_arrival(
+    alloc: Global,
+    rule: &Rule,
+    pool: &mut Pool,
+    entry: &NumberedEntry,
+    groups: &mut Vec<ExitGroup>,
+) -> Result<(), Memory>
+    requires numbers { AreNumbersOf pool.old entry.now }
+    requires kept { KeepsDomains rule.now (plain_entry pool.old entry.now) }
+    requires known { AreKnownGroups pool.old groups.old.items }
+    ensures pool { IsLonger pool.old pool.new }
+    ensures added { OnOk result ((app : App) (p : Point) → IsArrivalRule app p rule.now → number_domains entry.now ≡ domains_of app →
+        AddsRoutines app p (plain_entry pool.old entry.now) (λ (other : Rule). other ≡ rule.now) pool.old groups.old.items pool.new groups.new.items) }
+{
+    let Some(after) = apply(alloc, rule, pool, entry)? else {
+        return Ok(());
+    };
+    let mut targets = Seq::new(alloc);
+    targets.push(rule.target)?;
+    groups.push(ExitGroup {
+        decision: None,
+        status: None,
+        entry: after,
+        ends: Ends::At(targets),
+    })?;
+    Ok(())
+}
+
+// whether a rule takes all values, and changes one component
+fn is_bare(rule: &Rule) -> bool
+    ensures { result ≡ is_bare_of rule.now }
+{
+    rule.conditions.is_empty() && rule.changes.len() == 1
+}
+
+// adds what a rule that takes all values makes of the one component that it changes
+fn push_end(
+    alloc: Global,
+    rule: &Rule,
+    pool: &mut Pool,
+    entry: &NumberedEntry,
+    shared: &mut Seq<NumberEnd>,
+) -> Result<(), Memory>
+    requires numbers { AreNumbersOf pool.old entry.now }
+    requires filled { AreFilled entry.now }
+    requires kept { KeepsDomains rule.now (plain_entry pool.old entry.now) }
+    requires bare { is_bare_of rule.now ≡ true }
+    requires known { (x : Change) → slice_index_or rule.now.changes 0 x ≡ x → x.component.0 < length entry.now.sets }
+    ensures pool { IsLonger pool.old pool.new }
+    ensures added { OnOk result (AddsEnd rule.now entry.now pool.old shared.old pool.new shared.new) }
+{
+    let Some(end) = second_end(alloc, rule, pool)? else {
+        return push_made(alloc, rule, pool, entry, shared);
+    };
+    shared.push(end)?;
+    Ok(())
+}
+
+// the end of a rule that sets the value that its component was seen with second
+fn second_end(alloc: Global, rule: &Rule, pool: &Pool) -> Result<Option<NumberEnd>, Memory>
+    requires bare { is_bare_of rule.now ≡ true }
+    requires known { (x : Change) → slice_index_or rule.now.changes 0 x ≡ x → x.component.0 < length pool.now }
+    ensures { IfOk result (λ end. IfSome end (IsSetEnd rule.now pool.now)) }
+{
+    let change = rule.changes.at(0);
+    let Update::Set(to) = &change.update else {
+        return Ok(None);
+    };
+    let component = change.component.index();
+    let Some(numbers) = second_alone(alloc, pool, component, to)? else {
+        return Ok(None);
+    };
+    Ok(Some(NumberEnd {
+        component,
+        numbers,
+        target: rule.target,
+    }))
+}
+
+// The set of the number of a value alone, where the component was seen with it second: mostly a source is out at first, and
+// then its routine begins. So no value is looked up.
+fn second_alone(
+    alloc: Global,
+    pool: &Pool,
+    component: usize,
+    value: &PartValue,
+) -> Result<Option<NumberedSet>, Memory>
+    requires { component < length pool.now }
+    ensures { IfOk result (λ set. IfSome set (IsAloneIn pool.now component value.now)) }
+{
+    if !is_second(pool, component, value) {
+        return Ok(None);
+    }
+    let mut alone = NumberedSet::new(alloc, pool.domain(component));
+    alone.put(1)?;
+    Ok(Some(alone))
+}
+
+// whether a component was seen with a value second
+fn is_second(pool: &Pool, component: usize, value: &PartValue) -> bool
+    requires { component < length pool.now }
+    ensures { OnTrue result (IsNumberOf (values_at pool.now component) value.now 1) }
+{
+    if pool.len(component) < 2 {
+        return false;
+    }
+    pool.value(component, 1).is(value)
+}
+
+// adds that by the numbers of what it makes of each
+fn push_made(
+    alloc: Global,
+    rule: &Rule,
+    pool: &mut Pool,
+    entry: &NumberedEntry,
+    shared: &mut Seq<NumberEnd>,
+) -> Result<(), Memory>
+    requires numbers { AreNumbersOf pool.old entry.now }
+    requires filled { AreFilled entry.now }
+    requires kept { KeepsDomains rule.now (plain_entry pool.old entry.now) }
+    requires bare { is_bare_of rule.now ≡ true }
+    requires known { (x : Change) → slice_index_or rule.now.changes 0 x ≡ x → x.component.0 < length entry.now.sets }
+    ensures pool { IsLonger pool.old pool.new }
+    ensures added { OnOk result (AddsEnd rule.now entry.now pool.old shared.old pool.new shared.new) }
+{
+    let component = rule.changes.at(0).component.index();
+    let numbers = entry.sets.set(alloc, component)?;
+    let made = updated(alloc, &rule.changes, Some(0), pool, component, &numbers)?;
+    shared.push(NumberEnd {
+        component,
+        numbers: made,
+        target: rule.target,
+    })?;
+    Ok(())
+}
+
+// adds the exits by which routines begin that share an entry, if there are any
+fn push_shared(
+    alloc: Global,
+    entry: &NumberedEntry,
+    shared: Seq<NumberEnd>,
+    groups: &mut Vec<ExitGroup>,
+) -> Result<(), Memory>
+    ensures { OnOk result ((app : App) (p : Point) (before pool : List Values) (rules : List Rule) → AreArrivals app p rules → number_domains entry.now ≡ domains_of app → IsLonger before pool → AreNumbersOf before entry.now →
+        AreKnownGroups pool groups.old.items → AreSharedEnds rules (length rules) entry.now before pool shared →
+        AddsRoutines app p (plain_entry before entry.now) (IsAmongFirst rules (length rules) true) pool groups.old.items pool groups.new.items) }
+{
+    if shared.is_empty() {
+        return Ok(());
+    }
+    let entry = entry.copy(alloc)?;
+    groups.push(ExitGroup {
+        decision: None,
+        status: None,
+        entry,
+        ends: Ends::With(shared),
+    })?;
+    Ok(())
+}

@@ -1,0 +1,309 @@
+//! What changes make of the values of a numbered entry that pass conditions.
+ghost use Rattle.std.specs.Prelude.{◌≡◌, ◌<◌, ◌≤◌, ◌+◌, List, length, slice_index_or, false, IfOk, OnOk, IfSome, IfNone, [], ◌∷◌, ◌++◌, IsTrue, ℕ};
+ghost use Rattle.std.specs.Bool.{OnTrue, OnFalse};
+ghost use Rattle.flow_model.specs.{declared.{test.Condition.{Condition}, change.Change.{Change}}, Rules.{Applies, HasNone}};
+ghost use Rattle.flow_model.specs.Tests.{value_after as value_after_of};
+ghost use Rattle.numbered_sets.specs.{declared.numbered_entry.NumberedEntry.{NumberedEntry}, NumberedEntries.{number_domains, AreFilled, HasEmptySet}};
+ghost use Rattle.numbered_sets.specs.{Pools.{Values, IsLonger, values_at, domain_at, IsNumberOf}, Views.{plain_entry, AreNumbersOf, plain_set}};
+ghost use Rattle.numbered_sets.specs.Numbers.{has_number};
+ghost use Rattle.point_exits.specs.Applying.{KeepsDomains, bare_rule, IsPassedSet, IsPassedSoFar};
+ghost use Rattle.point_exits.specs.Changing.{is_named as is_named_of, up_to, IsAlone, StaysWithin, AreAllPassed, making};
+ghost use Rattle.point_exits.specs.Sifting.{AreSifted, LeavesNone};
+ghost use Rattle.abstract_state.specs.{declared.value.{Domain.{Domain}, PartValue.{PartValue}}, Domains.{IsWithin}, Tables.{is_member}};
+
+use abstract_state::PartValue;
+use flow_model::{Change, Condition, Rule, Test, Update, value_after};
+use numbered_sets::{NumberedEntry, NumberedSet, Pool};
+use osek_values::{Memory, Seq};
+use std::alloc::Global;
+
+/// What a rule makes of the values of an entry that pass, set by set; none where some set has no such value. The pool
+/// grows by the values that it lacks, also where memory is wanted.
+pub fn apply(
+    alloc: Global,
+    rule: &Rule,
+    pool: &mut Pool,
+    entry: &NumberedEntry,
+) -> Result<Option<NumberedEntry>, Memory>
+    requires numbers { AreNumbersOf pool.old entry.now }
+    requires domains { KeepsDomains rule.now (plain_entry pool.old entry.now) }
+    ensures pool { IsLonger pool.old pool.new }
+    ensures numbers { IfOk result (λ new. IfSome new (AreNumbersOf pool.new)) }
+    ensures some { IfOk result (λ new. IfSome new (λ new. Applies rule.now (plain_entry pool.old entry.now) (plain_entry pool.new new))) }
+    ensures none { IfOk result (λ new. IfNone new (HasNone rule.now (plain_entry pool.old entry.now))) }
+{
+    applied(alloc, &rule.conditions, &rule.changes, pool, entry)
+}
+
+/// What changes make of the values of an entry that pass conditions, as a rule with these does.
+pub fn applied(
+    alloc: Global,
+    conditions: &Seq<Condition>,
+    changes: &Seq<Change>,
+    pool: &mut Pool,
+    entry: &NumberedEntry,
+) -> Result<Option<NumberedEntry>, Memory>
+    requires numbers { AreNumbersOf pool.old entry.now }
+    requires domains { KeepsDomains (bare_rule conditions.now changes.now) (plain_entry pool.old entry.now) }
+    ensures pool { IsLonger pool.old pool.new }
+    ensures numbers { IfOk result (λ new. IfSome new (AreNumbersOf pool.new)) }
+    ensures some { IfOk result (λ new. IfSome new (λ new. Applies (bare_rule conditions.now changes.now) (plain_entry pool.old entry.now) (plain_entry pool.new new))) }
+    ensures none { IfOk result (λ new. IfNone new (HasNone (bare_rule conditions.now changes.now) (plain_entry pool.old entry.now))) }
+{
+    // most rules that take nothing want a value that isn't there: no entry is made for these
+    if !may_pass(conditions.as_slice(), pool, entry) {
+        return Ok(None);
+    }
+    let mut made = entry.copy(alloc)?;
+    if !sift(alloc, conditions.as_slice(), pool, &mut made)? {
+        return Ok(None);
+    }
+    for place in 0..changes.len() {
+        change(alloc, changes, place, pool, &mut made)?;
+    }
+    Ok(Some(made))
+}
+
+// does to an entry what all changes of one component say, where the change at a place is the first that names it
+fn change(
+    alloc: Global,
+    changes: &Seq<Change>,
+    place: usize,
+    pool: &mut Pool,
+    entry: &mut NumberedEntry,
+) -> Result<(), Memory>
+    requires known { place < length changes.now }
+    requires numbers { AreNumbersOf pool.old entry.old }
+    requires domain { StaysWithin changes.now place pool.old entry.old }
+    ensures pool { IsLonger pool.old pool.new }
+    ensures alike { number_domains entry.new ≡ number_domains entry.old }
+    ensures passed { OnOk result ((conditions : List Condition) (before : List Values) (was : NumberedEntry) → AreAllPassed (up_to (bare_rule conditions changes.now) place) before was (length was.sets) pool.old entry.old.sets →
+        AreAllPassed (up_to (bare_rule conditions changes.now) (place + 1)) before was (length was.sets) pool.new entry.new.sets) }
+{
+    let component = changes.at(place).component.index();
+    if component >= entry.sets.len() || is_named(changes.as_slice(), place, component) {
+        return Ok(());
+    }
+    let alone = alone(changes, place, component);
+    let numbers = entry.sets.set(alloc, component)?;
+    let set = updated(alloc, changes, alone, pool, component, &numbers)?;
+    entry.sets.put(component, &set)?;
+    Ok(())
+}
+
+// the place, if no later change names the component of the change there too
+fn alone(changes: &Seq<Change>, place: usize, component: usize) -> Option<usize>
+    requires known { place < length changes.now }
+    requires named { (x : Change) → slice_index_or changes.now place x ≡ x → x.component.0 ≡ component }
+    requires first { is_named_of changes.now place component ≡ false }
+    ensures { IfSome result (IsAlone changes.now component) }
+{
+    let count = changes.len();
+    let later = &changes.as_slice()[place + 1..count];
+    if is_named(later, later.len(), component) {
+        return None;
+    }
+    Some(place)
+}
+
+// whether a change before a place names a component
+fn is_named(changes: &[Change], place: usize, component: usize) -> bool
+    requires { place ≤ length changes.now }
+    ensures { result ≡ is_named_of changes.now place component }
+{
+    for earlier in 0..place {
+        if changes[earlier].component.index() == component {
+            return true;
+        }
+    }
+    false
+}
+
+/// Leaves out the numbers of the values that don't pass each condition on their component, as long as each set that a
+/// condition names has one left. Tells whether each set has. The pool keeps which values pass.
+pub fn sift(
+    alloc: Global,
+    conditions: &[Condition],
+    pool: &mut Pool,
+    entry: &mut NumberedEntry,
+) -> Result<bool, Memory>
+    requires { length entry.old.sets ≤ length pool.old }
+    ensures same { pool.new ≡ pool.old }
+    ensures alike { number_domains entry.new ≡ number_domains entry.old }
+    ensures sifted { IfOk result (λ is_filled. OnTrue is_filled (AreSifted pool.old conditions.now entry.old entry.new)) }
+    ensures filled { IfOk result (λ is_filled. OnTrue is_filled (AreFilled entry.new)) }
+    ensures none { IfOk result (λ is_filled. OnFalse is_filled (LeavesNone pool.old conditions.now entry.old)) }
+{
+    for condition in conditions {
+        if !keep_passing(alloc, condition, pool, entry)? {
+            return Ok(false);
+        }
+    }
+    Ok(entry.is_filled())
+}
+
+// leaves out the numbers of the values of a condition's component that don't pass it, and tells whether there is one left
+fn keep_passing(
+    alloc: Global,
+    condition: &Condition,
+    pool: &mut Pool,
+    entry: &mut NumberedEntry,
+) -> Result<bool, Memory>
+    requires { length entry.old.sets ≤ length pool.old }
+    ensures same { pool.new ≡ pool.old }
+    ensures alike { number_domains entry.new ≡ number_domains entry.old }
+    ensures sifted { OnOk result (AreSifted pool.old (condition.now ∷ []) entry.old entry.new) }
+    ensures none { IfOk result (λ is_left. OnFalse is_left (HasEmptySet entry.new)) }
+{
+    let component = condition.component.index();
+    if component >= entry.sets.len() {
+        return Ok(true);
+    }
+    pool.keep_passing(alloc, component, &condition.test, entry)?;
+    let is_left = !entry.sets.is_empty(component);
+    Ok(is_left)
+}
+
+/// Whether each value that a condition wants is there.
+pub fn may_pass(conditions: &[Condition], pool: &Pool, entry: &NumberedEntry) -> bool
+    requires { length entry.now.sets ≤ length pool.now }
+    ensures { OnFalse result (LeavesNone pool.now conditions.now entry.now) }
+{
+    for condition in conditions {
+        if !has_wanted(condition, pool, entry) {
+            return false;
+        }
+    }
+    true
+}
+
+// whether the value is there that a condition wants, if it wants one alone, or another than one that it doesn't want
+fn has_wanted(condition: &Condition, pool: &Pool, entry: &NumberedEntry) -> bool
+    requires { length entry.now.sets ≤ length pool.now }
+    ensures { OnFalse result (LeavesNone pool.now (condition.now ∷ []) entry.now) }
+{
+    let component = condition.component.index();
+    if component >= entry.sets.len() {
+        return true;
+    }
+    match &condition.test {
+        Test::Is(value) => pool.has_value(component, value, entry),
+        Test::IsNot(_) => may_pass_alone(&condition.test, component, pool, entry),
+        _ => true,
+    }
+}
+
+/// Whether the value of a set that has one alone passes.
+pub fn may_pass_alone(test: &Test, component: usize, pool: &Pool, entry: &NumberedEntry) -> bool
+    requires set { component < length entry.now.sets }
+    requires values { component < length pool.now }
+    ensures { OnFalse result ((x : Condition) → x.component.0 ≡ component → x.test ≡ test.now → LeavesNone pool.now (x ∷ []) entry.now) }
+{
+    let count = pool.len(component);
+    let first = entry.next(component, 0, count);
+    if first >= count {
+        return false;
+    }
+    let second = entry.next(component, first + 1, count);
+    if second < count {
+        return true;
+    }
+    test.passes(&pool.value(component, first))
+}
+
+/// The numbers of what changes make of the values of a component's set. `alone` is the place of the change that alone says
+/// what becomes of the component, where one does.
+pub fn updated(
+    alloc: Global,
+    changes: &Seq<Change>,
+    alone: Option<usize>,
+    pool: &mut Pool,
+    component: usize,
+    numbers: &NumberedSet,
+) -> Result<NumberedSet, Memory>
+    requires alone { IfSome alone (IsAlone changes.now component) }
+    requires known { component < length pool.old }
+    requires alike { numbers.now.domain ≡ domain_at pool.old component }
+    requires numbers { (n : ℕ) → IsTrue (has_number numbers.now n) → n < length (values_at pool.old component) }
+    requires domain { (v : PartValue) → IsTrue (is_member (plain_set (values_at pool.old component) numbers.now) v) → IsWithin (domain_at pool.old component) (value_after_of changes.now component v) }
+    ensures pool { IsLonger pool.old pool.new }
+    ensures passed { IfOk result (IsPassedSet (making changes.now) pool.old component numbers.now pool.new) }
+{
+    if let Some(place) = alone {
+        return match &changes.at(place).update {
+            Update::Set(to) => replaced(alloc, to, pool, component, numbers),
+            update => pool.numbers_after(alloc, component, numbers, update),
+        };
+    }
+    moved(alloc, changes, pool, component, numbers)
+}
+
+// the number of a value that changes set, where there is one to be set
+fn replaced(
+    alloc: Global,
+    to: &PartValue,
+    pool: &mut Pool,
+    component: usize,
+    numbers: &NumberedSet,
+) -> Result<NumberedSet, Memory>
+    requires known { component < length pool.old }
+    requires numbers { (n : ℕ) → IsTrue (has_number numbers.now n) → n < length (values_at pool.old component) }
+    requires domain { (v : PartValue) → IsTrue (is_member (plain_set (values_at pool.old component) numbers.now) v) → IsWithin (domain_at pool.old component) to.now }
+    ensures pool { IsLonger pool.old pool.new }
+    ensures passed { IfOk result (λ set. (changes : List Change) → ((v : PartValue) → value_after_of changes component v ≡ to.now) → IsPassedSet (making changes) pool.old component numbers.now pool.new set) }
+{
+    let mut new = NumberedSet::new(alloc, numbers.domain());
+    if numbers.is_empty() {
+        return Ok(new);
+    }
+    let number = pool.number(component, to.copy())?;
+    new.put(number)?;
+    Ok(new)
+}
+
+// the numbers of what changes make of each value
+fn moved(
+    alloc: Global,
+    changes: &Seq<Change>,
+    pool: &mut Pool,
+    component: usize,
+    numbers: &NumberedSet,
+) -> Result<NumberedSet, Memory>
+    requires known { component < length pool.old }
+    requires alike { numbers.now.domain ≡ domain_at pool.old component }
+    requires numbers { (n : ℕ) → IsTrue (has_number numbers.now n) → n < length (values_at pool.old component) }
+    requires domain { (v : PartValue) → IsTrue (is_member (plain_set (values_at pool.old component) numbers.now) v) → IsWithin (domain_at pool.old component) (value_after_of changes.now component v) }
+    ensures pool { IsLonger pool.old pool.new }
+    ensures passed { IfOk result (IsPassedSet (making changes.now) pool.old component numbers.now pool.new) }
+{
+    let mut new = NumberedSet::new(alloc, numbers.domain());
+    let count = pool.len(component);
+    let mut number = numbers.next(0, count);
+    while number < count {
+        put_updated(changes, pool, component, number, &mut new)?;
+        number = numbers.next(number + 1, count);
+    }
+    Ok(new)
+}
+
+// puts in the number of what changes make of the value with a number
+fn put_updated(
+    changes: &Seq<Change>,
+    pool: &mut Pool,
+    component: usize,
+    number: usize,
+    new: &mut NumberedSet,
+) -> Result<(), Memory>
+    requires known { component < length pool.old }
+    requires given { number < length (values_at pool.old component) }
+    requires domain { (v : PartValue) → IsNumberOf (values_at pool.old component) v number → IsWithin (domain_at pool.old component) (value_after_of changes.now component v) }
+    ensures pool { IsLonger pool.old pool.new }
+    ensures passed { OnOk result ((before : List Values) (d : Domain) (done : List PartValue) (v : PartValue) → IsNumberOf (values_at pool.old component) v number →
+        IsPassedSoFar (making changes.now) before component d done pool.old new.old → IsPassedSoFar (making changes.now) before component d (done ++ v ∷ []) pool.new new.new) }
+{
+    let before = pool.value(component, number);
+    let after = value_after(changes.as_slice(), component, &before);
+    let made = pool.number(component, after)?;
+    new.put(made)?;
+    Ok(())
+}

@@ -1,0 +1,145 @@
+//! Exits that have all but the point, and for each the values of one component, in common; and the points where they end.
+ghost use Rattle.std.specs.Prelude.{◌≡◌, ◌<◌, ◌∷◌, [], length, slice_index_or, IfOk, OnOk, IfSome};
+ghost use Rattle.flow_model.specs.Runners.{component_of};
+ghost use Rattle.numbered_sets.specs.Views.{AreNumbersOf};
+ghost use Rattle.point_exits.specs.{declared.group.NumberEnd.{NumberEnd}, Deciding.{AreBlocks, HaveNumbersOf, IsNumberPut}};
+ghost use Rattle.point_exits.specs.declared.group.Ends.TheVariants as ends;
+
+use abstract_state::{Domain, Point};
+use flow_model::{Decision, Runner};
+use numbered_sets::{NumberedEntry, NumberedSet, Pool};
+use osek_values::{BlockNo, Memory, Seq, Status};
+use std::alloc::Global;
+
+/// The numbers of a component's values with which a step ends at a point.
+#[derive(Drop)]
+pub struct NumberEnd {
+    pub component: usize,
+    pub numbers: NumberedSet,
+    pub target: Point,
+}
+
+/// The points at which steps end.
+#[derive(Drop)]
+pub enum Ends {
+    /// Each with all values.
+    At(Seq<Point>),
+    /// Each with some values of a component, and all of the others.
+    With(Seq<NumberEnd>),
+}
+
+/// Exits of a point with these numbers. The decision is none where a routine begins.
+#[derive(Drop)]
+pub struct ExitGroup {
+    pub decision: Option<Decision>,
+    pub status: Option<Status>,
+    pub entry: NumberedEntry,
+    pub ends: Ends,
+}
+
+// an end at the point of a component's block, which stands in this row of its domain's blocks
+#[derive(Clone, Copy)]
+struct BlockEnd {
+    component: usize,
+    domain: Domain,
+    target: Point,
+    row: usize,
+}
+
+/// One point, with all values.
+pub fn at(alloc: Global, point: Point) -> Result<Ends, Memory>
+    ensures { IfOk result (λ x. x ≡ ends.At (point ∷ [])) }
+{
+    let mut points = Seq::new(alloc);
+    points.push(point)?;
+    Ok(Ends::At(points))
+}
+
+/// The blocks of a runner's values, each with those that stand there; `places` tells by a block's row where its end stands.
+pub fn at_blocks(
+    alloc: Global,
+    pool: &Pool,
+    runner: Runner,
+    entry: &NumberedEntry,
+) -> Result<Ends, Memory>
+    requires known { component_of runner < length entry.now.sets }
+    requires numbers { AreNumbersOf pool.now entry.now }
+    ensures { IfOk result (AreBlocks pool.now entry.now runner) }
+{
+    let component = runner.component().index();
+    let domain = entry.sets.domain(component);
+    let count = pool.len(component);
+    let mut places = Vec::from_elem(alloc, 0, block_count(domain))?;
+    let mut ends = Seq::new(alloc);
+    let mut number = entry.next(component, 0, count);
+    while number < count {
+        let block = pool.block(component, number);
+        let end = BlockEnd {
+            component,
+            domain,
+            target: runner.at(block),
+            row: row_of(domain, block),
+        };
+        put_number(alloc, end, number, places.as_mut_slice(), &mut ends)?;
+        number = entry.next(component, number + 1, count);
+    }
+    Ok(Ends::With(ends))
+}
+
+// puts a number to those with which a step ends at a point
+fn put_number(
+    alloc: Global,
+    end: BlockEnd,
+    number: usize,
+    places: &mut [usize],
+    ends: &mut Seq<NumberEnd>,
+) -> Result<(), Memory>
+    ensures some { OnOk result (HaveNumbersOf end.component end.domain ends.old → HaveNumbersOf end.component end.domain ends.new) }
+    ensures put { OnOk result (IsNumberPut end.target number ends.old ends.new) }
+{
+    let target = end.target;
+    let Some(place) = end_at(places, end.row, ends, target) else {
+        if let Some(place) = places.get_mut(end.row) {
+            *place = ends.len();
+        }
+        let mut numbers = NumberedSet::new(alloc, end.domain);
+        numbers.put(number)?;
+        return ends.push(NumberEnd {
+            component: end.component,
+            numbers,
+            target,
+        });
+    };
+    let end = ends.at_mut(place);
+    end.numbers.put(number)?;
+    Ok(())
+}
+
+// The place of the end at a point, by the row of its block. What stands in `places` is looked up, so nothing rests on it.
+fn end_at(places: &[usize], row: usize, ends: &Seq<NumberEnd>, target: Point) -> Option<usize>
+    ensures { IfSome result (λ place. (place < length ends.now) × ((none : NumberEnd) → (slice_index_or ends.now place none).target ≡ target)) }
+{
+    let place = *places.get(row)?;
+    if place < ends.len() && ends.at(place).target == target {
+        return Some(place);
+    }
+    None
+}
+
+// how many blocks a task or a routine has
+fn block_count(domain: Domain) -> usize {
+    match domain {
+        Domain::Task { count, .. } | Domain::Source { count, .. } => usize::from(count),
+        Domain::Event | Domain::Alarm => 0,
+    }
+}
+
+// how many blocks of the task or the routine stand before a block
+fn row_of(domain: Domain, block: BlockNo) -> usize {
+    match domain {
+        Domain::Task { first, .. } | Domain::Source { first, .. } => {
+            block.index().saturating_sub(first.index())
+        }
+        Domain::Event | Domain::Alarm => 0,
+    }
+}

@@ -1,0 +1,23 @@
+//! The exits of a point, by number: the numbers of the values that the components have where a step from there ends.
+#![tactic(auto)]
+
+mod after_effect;
+mod arrivals;
+mod before_effect;
+mod changes;
+mod exits;
+mod group;
+mod insides;
+mod levels;
+mod settled;
+mod start;
+mod task_levels;
+
+pub use after_effect::AfterEffect;
+pub use before_effect::BeforeEffect;
+pub use changes::apply;
+pub use exits::exit_groups;
+pub use group::{Ends, ExitGroup, NumberEnd};
+pub use levels::Levels;
+pub use settled::has_it_after;
+pub use start::{row_of, start_row};

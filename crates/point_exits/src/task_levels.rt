@@ -1,0 +1,259 @@
+//! The values of one task by what the scheduler reads of them.
+ghost use Rattle.std.specs.Prelude.{◌≡◌};
+
+use abstract_state::{Domain, PartValue};
+use flow_exits::as_candidate;
+use numbered_sets::{NumberedEntry, NumberedSet, Pool};
+use osek_standard::App;
+use osek_values::{Memory, Seq, TaskNo};
+use std::alloc::Global;
+
+/// The numbers of the values with which a task is Live at one current priority.
+#[derive(Drop)]
+pub struct Level {
+    pub priority: u32,
+    pub numbers: NumberedSet,
+}
+
+/// The numbers of a task's values: those with which it isn't Live, and those of each current priority.
+#[derive(Drop)]
+pub struct TaskLevels {
+    /// How many values were judged.
+    pub judged: usize,
+    pub dead: NumberedSet,
+    pub levels: Seq<Level>,
+}
+
+impl TaskLevels {
+    ghost use Rattle.std.specs.Prelude.{ℕ, List, ◌≡◌, ◌<◌, ◌≤◌, ◌+◌, ◌^◌, length, slice_index_or, IfOk, OnOk, IfSome, IsTrue, ◌-◌, Contains};
+    ghost use Rattle.osek_standard.specs.declared.app.App.{App};
+    ghost use Rattle.abstract_state.specs.{declared.value.PartValue.{PartValue}, Concrete.{val_of}};
+    ghost use Rattle.numbered_sets.specs.{Numbers.{has_number, meets}, Pools.{values_at, IsNumberOf, Values}, NumberedEntries.{numbers_at}};
+    ghost use Rattle.point_exits.specs.declared.task_levels.Level.{Level};
+    ghost use Rattle.point_exits.specs.Levels.{IsLiveAt, AreTaskLevels, with_next, AreAllJudged, HasLevelBelow, IsLeastLimit, IsNarrowed};
+    ghost use Rattle.flow_model.specs.Values.{is_live_value};
+    ghost use Rattle.flow_exits.specs.Claims.{is_below};
+
+    /// No value was judged yet.
+    pub fn new(alloc: Global, domain: Domain) -> TaskLevels
+        ensures judged { result.judged ≡ 0 }
+        ensures levels { (app : App) (u : ℕ) (vs : List PartValue) → AreTaskLevels app u vs result }
+    {
+        TaskLevels {
+            judged: 0,
+            dead: NumberedSet::new(alloc, domain),
+            levels: Seq::new(alloc),
+        }
+    }
+
+    /// Judges the values that came in since the last time.
+    pub fn renew(
+        &mut self,
+        alloc: Global,
+        app: &App,
+        task: TaskNo,
+        pool: &Pool,
+    ) -> Result<(), Memory>
+        requires known { task.0 < length app.now.tasks }
+        requires pool { task.0 < length pool.now }
+        requires levels { AreTaskLevels app.now task.0 (values_at pool.now task.0) self.old }
+        ensures levels { OnOk result (AreTaskLevels app.now task.0 (values_at pool.now task.0) self.new) }
+        ensures all { OnOk result (self.new.judged ≡ length (values_at pool.now task.0)) }
+    {
+        for _number in self.judged..pool.len(task.index()) {
+            self.judge_next(alloc, app, task, pool)?;
+        }
+        Ok(())
+    }
+
+    // judges the next value, by one at another block where it can
+    fn judge_next(
+        &mut self,
+        alloc: Global,
+        app: &App,
+        task: TaskNo,
+        pool: &Pool,
+    ) -> Result<(), Memory>
+        requires known { task.0 < length app.now.tasks }
+        requires pool { task.0 < length pool.now }
+        requires next { self.old.judged < length (values_at pool.now task.0) }
+        requires room { self.old.judged + 1 < 2 ^ 64 }
+        requires levels { AreTaskLevels app.now task.0 (values_at pool.now task.0) self.old }
+        ensures levels { OnOk result (AreTaskLevels app.now task.0 (values_at pool.now task.0) self.new) }
+        ensures judged { OnOk result (self.new.judged ≡ self.old.judged + 1) }
+    {
+        let component = task.index();
+        let number = self.judged;
+        if let Some(place) = self.place_beside(pool, component) {
+            self.put_at(place, number)?;
+            self.judged = number + 1;
+            return Ok(());
+        }
+        self.judge(alloc, app, task, &pool.value(component, number))
+    }
+
+    // The place of the level of the next value, by what it would be at the block before: there a task mostly held the same.
+    fn place_beside(&self, pool: &Pool, component: usize) -> Option<usize>
+        requires pool { component < length pool.now }
+        requires next { self.now.judged < length (values_at pool.now component) }
+        ensures known { IfSome result (λ place. place < length self.now.levels) }
+        ensures level { IfSome result (λ place. (app : App) (u : ℕ) (d : Level) (v : PartValue) → AreTaskLevels app u (values_at pool.now component) self.now →
+            IsNumberOf (values_at pool.now component) v self.now.judged → IsLiveAt app u (slice_index_or self.now.levels place d).priority v) }
+    {
+        match pool.beside(component, self.judged) {
+            None => None,
+            Some(beside) => self.place_with(beside),
+        }
+    }
+
+    // the place of the level that has a number
+    fn place_with(&self, number: usize) -> Option<usize>
+        ensures known { IfSome result (λ place. place < length self.now.levels) }
+        ensures has { IfSome result (λ place. (d : Level) → IsTrue (has_number (slice_index_or self.now.levels place d).numbers number)) }
+    {
+        for place in 0..self.levels.len() {
+            if self.levels.at(place).numbers.has(number) {
+                return Some(place);
+            }
+        }
+        None
+    }
+
+    // judges the next value
+    fn judge(
+        &mut self,
+        alloc: Global,
+        app: &App,
+        task: TaskNo,
+        value: &PartValue,
+    ) -> Result<(), Memory>
+        requires known { task.0 < length app.now.tasks }
+        requires room { self.old.judged + 1 < 2 ^ 64 }
+        ensures levels { OnOk result ((vs : List PartValue) → AreTaskLevels app.now task.0 vs self.old → IsNumberOf vs value.now self.old.judged → AreTaskLevels app.now task.0 vs self.new) }
+        ensures judged { OnOk result (self.new.judged ≡ self.old.judged + 1) }
+    {
+        let number = self.judged;
+        match as_candidate(app, task, value) {
+            None => {
+                self.dead.insert(number)?;
+            }
+            Some(own) => self.put(alloc, own.priority, number)?,
+        }
+        self.judged = number + 1;
+        Ok(())
+    }
+
+    // puts the next number in the level of a priority
+    fn put(&mut self, alloc: Global, priority: u32, number: usize) -> Result<(), Memory>
+        requires { number ≡ self.old.judged }
+        ensures levels { OnOk result ((app : App) (u : ℕ) (vs : List PartValue) (v : PartValue) → AreTaskLevels app u vs self.old → IsNumberOf vs v number → IsLiveAt app u priority v → AreTaskLevels app u vs (with_next self.new)) }
+        ensures judged { OnOk result (self.new.judged ≡ self.old.judged) }
+    {
+        let place = self.place_for(alloc, priority)?;
+        self.put_at(place, number)?;
+        Ok(())
+    }
+
+    // puts the next number in the level at a place
+    fn put_at(&mut self, place: usize, number: usize) -> Result<(), Memory>
+        requires known { place < length self.old.levels }
+        requires next { number ≡ self.old.judged }
+        ensures levels { OnOk result ((app : App) (u : ℕ) (vs : List PartValue) (v : PartValue) → AreTaskLevels app u vs self.old → IsNumberOf vs v number →
+            ((d : Level) → IsLiveAt app u (slice_index_or self.old.levels place d).priority v) → AreTaskLevels app u vs (with_next self.new)) }
+        ensures judged { OnOk result (self.new.judged ≡ self.old.judged) }
+    {
+        let level = self.levels.at_mut(place);
+        level.numbers.put(number)?;
+        Ok(())
+    }
+
+    // the place of the level of a priority, which comes in last where there is none
+    fn place_for(&mut self, alloc: Global, priority: u32) -> Result<usize, Memory>
+        ensures known { IfOk result (λ place. place < length self.new.levels) }
+        ensures at { IfOk result (λ place. (d : Level) → (slice_index_or self.new.levels place d).priority ≡ priority) }
+        ensures levels { OnOk result ((app : App) (u : ℕ) (vs : List PartValue) → AreTaskLevels app u vs self.old → AreTaskLevels app u vs self.new) }
+        ensures judged { OnOk result (self.new.judged ≡ self.old.judged) }
+    {
+        let place = self.place_of(priority);
+        if place == self.levels.len() {
+            let numbers = NumberedSet::new(alloc, self.dead.domain());
+            self.levels.push(Level { priority, numbers })?;
+        }
+        Ok(place)
+    }
+
+    // the place of the level of a priority; past the last one where there is none
+    fn place_of(&self, priority: u32) -> usize
+        ensures few { result ≤ length self.now.levels }
+        ensures at { (d : Level) → result < length self.now.levels → (slice_index_or self.now.levels result d).priority ≡ priority }
+    {
+        for place in 0..self.levels.len() {
+            if self.levels.at(place).priority == priority {
+                return place;
+            }
+        }
+        self.levels.len()
+    }
+
+    /// The least limit under which the task is with some value of an entry; past all priorities where it has none.
+    pub fn need(&self, task: TaskNo, entry: &NumberedEntry) -> u64
+        requires { task.0 < length entry.now.sets }
+        ensures least { (app : App) (vs : List PartValue) → AreTaskLevels app task.0 vs self.now → AreAllJudged self.now (numbers_at entry.now task.0) → IsLeastLimit app task.0 vs (numbers_at entry.now task.0) result }
+        ensures none { (numbers_at entry.now task.0).bits ≡ 0 → result ≡ 2 ^ 64 - 1 }
+    {
+        if entry.meets(task.index(), &self.dead) {
+            return 0;
+        }
+        self.need_of_live(task, entry)
+    }
+
+    // the same where the task is Live with each of them
+    fn need_of_live(&self, task: TaskNo, entry: &NumberedEntry) -> u64
+        requires { task.0 < length entry.now.sets }
+        ensures least { (level : Level) → Contains self.now.levels level → IsTrue (meets (numbers_at entry.now task.0) level.numbers) → result ≤ level.priority + 1 }
+        ensures enough { (level : Level) → Contains self.now.levels level → IsTrue (meets (numbers_at entry.now task.0) level.numbers) → HasLevelBelow self.now.levels (numbers_at entry.now task.0) result }
+        ensures none { (numbers_at entry.now task.0).bits ≡ 0 → result ≡ 2 ^ 64 - 1 }
+    {
+        let mut need = u64::MAX;
+        for level in self.levels.as_slice() {
+            if entry.meets(task.index(), &level.numbers) {
+                need = need.min(level.limit_above());
+            }
+        }
+        need
+    }
+
+    /// Leaves out the numbers of the values with which the task is Live and not below a limit.
+    pub fn keep_below(&self, task: TaskNo, limit: u64, entry: &mut NumberedEntry)
+        requires { task.0 < length entry.old.sets }
+        ensures { (app : App) (pool : List Values) → AreTaskLevels app task.0 (values_at pool task.0) self.now → AreAllJudged self.now (numbers_at entry.old task.0) →
+            IsNarrowed (λ v. is_below app task.0 limit (val_of v)) pool task.0 entry.old entry.new }
+    {
+        for level in self.levels.as_slice() {
+            if level.priority as u64 >= limit {
+                entry.leave_out(task.index(), &level.numbers);
+            }
+        }
+    }
+
+    /// Leaves out the numbers of the values with which the task isn't Live.
+    pub fn keep_live(&self, task: TaskNo, entry: &mut NumberedEntry)
+        requires { task.0 < length entry.old.sets }
+        ensures { (app : App) (pool : List Values) → AreTaskLevels app task.0 (values_at pool task.0) self.now → AreAllJudged self.now (numbers_at entry.old task.0) →
+            IsNarrowed (λ v. is_live_value (val_of v)) pool task.0 entry.old entry.new }
+    {
+        entry.leave_out(task.index(), &self.dead);
+    }
+}
+
+impl Level {
+    ghost use Rattle.std.specs.Prelude.{◌≡◌, ◌+◌, ◌^◌, ◌<◌};
+
+    // the least limit that its priority is below
+    fn limit_above(&self) -> u64
+        ensures above { result ≡ self.now.priority + 1 }
+        ensures few { self.now.priority < 2 ^ 32 }
+    {
+        self.priority as u64 + 1
+    }
+}
