@@ -16,7 +16,7 @@ sys.path.insert(0, os.path.join(os.path.dirname(os.path.dirname(os.path.abspath(
 
 from lib import given
 
-TABLE, EXITS = 'commands::fitting::least_table', 'flow_rules::exits::exit_groups'
+TABLE, EXITS = 'commands::fitting::least_table', 'point_exits::exits::exit_groups'
 
 
 def calls_in_table(program):

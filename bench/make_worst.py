@@ -1,16 +1,18 @@
 #!/usr/bin/env python3
 """Makes an application on which the analysis takes long for its size: OIL and task code.
 
-    stacks R I B        one task takes R resources in any order, under I interrupt routines of B blocks each
+    stacks T R A I B    T tasks of A activations take R resources in any order, under I interrupt routines of B blocks each
+    activations T C A   T tasks of A activations activate each other, C calls each, the first of which activates itself
     waits W S E         one task waits at W places for E events, and another one sets them at S places
     routine_waits W I S one task waits at W places for an event, which I interrupt routines set at S places each
     alarm_waits W A     one task waits at W places for an event, which A alarms set
     routines I B        I interrupt routines of B blocks each over sixteen tasks
 
-    bench/make_worst.py stacks 5 8 60 DIR        writes DIR/app.oil, DIR/app.code
+    bench/make_worst.py stacks 1 5 1 8 60 DIR        writes DIR/app.oil, DIR/app.code
 """
 import os
 import sys
+from collections import namedtuple
 
 sys.path.insert(0, os.path.join(os.path.dirname(os.path.dirname(os.path.abspath(__file__))), 'tools'))
 
@@ -41,12 +43,21 @@ def waiting_task(events, places):
     return oil, body('TASK', 'T0', loop(['WaitEvent(%s);' % mask] * places + ['ClearEvent(%s);' % mask]))
 
 
-def stacks(resources, routines, blocks):
+def stacks(tasks, resources, activations, routines, blocks):
+    """Each task activates the next one, and so do the routines, one behind the other."""
     names = ' '.join('RESOURCE = R%d;' % k for k in range(resources))
-    oil = ['RESOURCE R%d;' % k for k in range(resources)] + ['TASK T0 { PRIORITY = 1; AUTOSTART = TRUE; %s };' % names]
+    queued = '' if activations == 1 else 'ACTIVATION = %d; ' % activations
+    oil = ['RESOURCE R%d;' % k for k in range(resources)]
+    oil += ['TASK T%d { PRIORITY = %d; AUTOSTART = TRUE; %s%s };' % (k, k + 1, queued, names) for k in range(tasks)]
     oil += ['ISR I%d { CATEGORY = 2; };' % k for k in range(routines)]
-    code = body('TASK', 'T0', loop(['if (?) { GetResource(R%d); }' % k for k in range(resources)] + ['ActivateTask(T0);']))
-    return oil, code + [line for k in range(routines) for line in body('ISR', 'I%d' % k, ['ActivateTask(T0);'] * (blocks - 1))]
+    takes, calls = ['if (?) { GetResource(R%d); }' % k for k in range(resources)], ['ActivateTask(T%d);' % (k % tasks) for k in range(blocks - 1)]
+    code = [line for k in range(tasks) for line in body('TASK', 'T%d' % k, loop(takes + ['ActivateTask(T%d);' % ((k + 1) % tasks)]))]
+    return oil, code + [line for k in range(routines) for line in body('ISR', 'I%d' % k, calls)]
+
+
+def activations(tasks, calls, most):
+    oil = ['TASK T%d { PRIORITY = %d; AUTOSTART = TRUE; ACTIVATION = %d; };' % (k, k + 1, most) for k in range(tasks)]
+    return oil, [line for k in range(tasks) for line in body('TASK', 'T%d' % k, loop(['ActivateTask(T%d);' % ((k + j) % tasks) for j in range(calls)]))]
 
 
 def waits(places, calls, events):
@@ -77,16 +88,54 @@ def routines(count, blocks):
         code + [line for k in range(count) for line in body('ISR', 'I%d' % k, calls)]
 
 
-FAMILIES = {'stacks': (stacks, 3), 'waits': (waits, 3), 'routine_waits': (routine_waits, 3), 'alarm_waits': (alarm_waits, 2), 'routines': (routines, 2)}
-"""Each family with how many numbers it takes."""
+LINED, FILLED = 15, 255
+"""How many tasks of one priority fill the line of activations, and how many of each."""
+
+
+def full_line():
+    """Tasks of one priority, each of which activates itself; interrupts activate them, so that the line gets all the places that it has."""
+    oil = ['TASK T%d { PRIORITY = 2; ACTIVATION = %d; };' % (k, FILLED) for k in range(LINED)] + ['TASK Rest { PRIORITY = 1; AUTOSTART = TRUE; };']
+    oil += ['ISR I%d { CATEGORY = 2; };' % k for k in range(LINED // 2 + 1)]
+    code = [line for k in range(LINED) for line in body('TASK', 'T%d' % k, ['ActivateTask(T%d);' % k])] + body('TASK', 'Rest', loop([]))
+    for k in range(LINED // 2 + 1):
+        first, second = ['ActivateTask(T%d);' % min(t, LINED - 1) for t in (2 * k, 2 * k + 1)]
+        code += body('ISR', 'I%d' % k, ['if (?) { %s } else { %s }' % (first, second)])
+    return oil, code
+
+
+def full_line_events(count):
+    """Event lines: all activations of each task, from the last task to the first; and then the processor runs."""
+    filling = [event for k in reversed(range(LINED)) for event in ['irq I%d' % (k // 2), 'run 1', 'run %d' % (k % 2 == 0), 'run 1', 'run 1'] * FILLED]
+    return filling[:count] + ['run 1'] * (count - len(filling))
+
+
+Family = namedtuple('Family', 'make count words')
+"""What makes an application of a family, how many numbers it takes, and what it is in words, with a place for each number."""
+
+FAMILIES = {
+    'stacks': Family(stacks, 5, '{1} resources in any order in each of {0} tasks, ACTIVATION {2}, under {3} routines of {4} blocks'),
+    'activations': Family(activations, 3, '{0} tasks of ACTIVATION {2} that activate each other, {1} calls each'),
+    'waits': Family(waits, 3, 'a task that waits at {0} places for {2} events, which another one sets at {1}'),
+    'routine_waits': Family(routine_waits, 3, 'a task that waits at {0} places for an event, which {1} routines set at {2} places each'),
+    'alarm_waits': Family(alarm_waits, 2, 'a task that waits at {0} places for an event, which {1} alarms set'),
+    'routines': Family(routines, 2, '{0} routines of {1} blocks over 16 tasks'),
+}
+
+
+def told(family, numbers):
+    """An application of a family in words."""
+    return FAMILIES[family].words.format(*numbers).replace('each of 1 tasks', 'one task').replace(', ACTIVATION 1,', ',')
 
 
 def write_app(family, numbers, folder):
     """Writes the two texts of an application of a family, and gives how many bytes they have."""
-    make, count = FAMILIES[family]
-    if len(numbers) != count:
-        raise given.Wrong('%s takes %d numbers' % (family, count))
-    oil, code = make(*numbers)
+    if family not in FAMILIES or len(numbers) != FAMILIES[family].count:
+        raise given.Wrong('%s: the families are %s' % (family, ', '.join('%s of %d numbers' % (name, one.count) for name, one in FAMILIES.items())))
+    return write_texts(*FAMILIES[family].make(*numbers), folder)
+
+
+def write_texts(oil, code, folder):
+    """Writes the two texts, and gives how many bytes they have."""
     os.makedirs(folder, exist_ok=True)
     texts = {'app.oil': ['CPU worst {', '  OS os { USERESSCHEDULER = FALSE; };'] + ['  ' + line for line in oil] + ['};'], 'app.code': code}
     for name, lines in texts.items():

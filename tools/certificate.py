@@ -7,12 +7,14 @@ rule and its offset. Whether the table certifies the image is what `osekfit chec
     tools/certificate.py --task T1 a.image a.table           one task, alarm or routine
     tools/certificate.py --point b3 a.image a.table          one point
     tools/certificate.py --code a.code a.image a.table       with the source lines
+    tools/certificate.py --guarantees a.image a.table        with what no run has of it, by the laws of docs/GUARANTEES.md
     tools/certificate.py --chart a.image a.table > a.svg     a row a point, a column a task, dark by how many values it may have
 """
 import sys
 
 from lib import certificate_chart
 from lib.given import Parser, Wrong, contents, data, run
+from lib.guarantees import Guarantees
 from lib.image_reader import read_image
 from lib.points import block_of, point_shown, points_of, shown_point
 from lib.table_bytes import table_told
@@ -26,8 +28,9 @@ def certificate(image_data, table_data, names=('the image', 'the table')):
     return app, table_told(app, table_data, names[1])
 
 
-def lines_of(app, table, points, only=None, code=None):
-    """The lines of these points, each with the parts of one name where that is given, and below the source line where there is code."""
+def lines_of(app, table, points, only=None, code=None, guarantees=None):
+    """The lines of these points, each with the parts of one name where that is given, below the source line where there is code, and above what
+    no run has of it where there are guarantees."""
     shown = [(shown_point(app, point), point) for point in points]
     width, wording = max((len(text) for text, _ in shown), default=0), Wording(app)
     for text, point in shown:
@@ -36,6 +39,8 @@ def lines_of(app, table, points, only=None, code=None):
             yield '-- ' + source
         parts = [words for name, words in wording.parts(point, table[point]) if only in (None, name)]
         yield ('%-*s  %s' % (width, text, ' | '.join(parts))).rstrip()
+        if guarantees:
+            yield from ('%*s  %s' % (width, '', gone) for gone in wording.in_no_run(point, guarantees.parted(point, table[point]).gone, only))
 
 
 def chosen_points(app, table, text):
@@ -57,6 +62,7 @@ def arguments():
     parser.add_argument('--point', metavar='POINT', help='one point, as `osekfit show` has it')
     parser.add_argument('--task', metavar='NAME', help='one task, alarm or routine')
     parser.add_argument('--code', metavar='FILE', help='the task code, for its lines')
+    parser.add_argument('--guarantees', action='store_true', help='says what no run has of it')
     parser.add_argument('--chart', action='store_true', help='a picture (SVG)')
     return parser.parse_args()
 
@@ -70,7 +76,8 @@ def main():
     if words.task is not None and words.task not in [one.name for one in app.tasks + app.alarms + app.sources]:
         raise Wrong('%s is no task, alarm or routine of the image' % words.task)
     code = (words.code, contents(words.code).splitlines()) if words.code else None
-    for line in lines_of(app, table, chosen_points(app, table, words.point), words.task, code):
+    guarantees = Guarantees(app) if words.guarantees else None
+    for line in lines_of(app, table, chosen_points(app, table, words.point), words.task, code, guarantees):
         print(line)
     if words.point is None and words.task is None:
         print('points %d entries %d values %d' % (len(points_of(app)), len(table), sum(len(values) for sets in table.values() for values in sets)))

@@ -3,11 +3,13 @@
 
 A block of commands begins with ```console. Its lines behind `$ ` are typed in a shell, all of a block in one, from the repository's root;
 what stands below a command is what it has to print, and a command with nothing below may print anything. Each has to end with status 0,
-or, where it prints warnings, with 1; and no file that the repository keeps may change. Besides, each link between pages has to lead
+or, where it prints warnings, with 1; and no file that the repository keeps may change. ```console needs clang begins a block that is left out, and
+is told, where there is no such command. Besides, each link between pages has to lead
 somewhere, no line is too long, and no page but CHANGES names an older version; with --links these alone are looked at, and no program is
 needed.
 
     tools/check_documents.py crates/osekfit/out/osekfit
+    tools/check_documents.py crates/osekfit/out/osekfit README.md docs/GUIDE.md        the commands of these pages alone
 """
 import filecmp
 import os
@@ -21,10 +23,13 @@ from lib import pages
 from lib.crates import ROOT
 from lib.given import Parser, Wrong, contents, run
 
-COPIED = ['README.md', 'VERSION', 'docs', 'examples', 'tools', 'bench']
+COPIED = ['README.md', 'CHANGES.md', 'VERSION', 'docs', 'examples', 'tools', 'bench']
 
 Command = namedtuple('Command', 'line text due')
 """A command, where it stands, and the lines that it has to print."""
+
+Block = namedtuple('Block', 'needs commands')
+"""The commands that are typed in one shell, and what they need beside the program."""
 
 
 def blocks_of(text):
@@ -32,22 +37,33 @@ def blocks_of(text):
     found, block = [], None
     for number, line in enumerate(text.splitlines(), 1):
         if line.startswith('```'):
-            block = [] if line == '```console' else None
+            block = Block(needed(line), []) if line.split(' ')[0] == '```console' else None
             if block is not None:
                 found.append(block)
         elif block is not None and line.startswith('$ '):
-            block.append(Command(number, line[2:], []))
-        elif block:
-            block[-1].due.append(line)
+            block.commands.append(Command(number, line[2:], []))
+        elif block is not None and block.commands:
+            block.commands[-1].due.append(line)
     return found
+
+
+def needed(line):
+    """The commands that the first line of a block says it needs."""
+    words = line.split(' ')
+    return words[2:] if words[1:2] == ['needs'] else []
+
+
+def missing(block):
+    """The commands that a block needs and that aren't there."""
+    return [name for name in block.needs if shutil.which(name) is None]
 
 
 MARK = 'check_documents: the next command'
 
 
-def printed(block, folder, program):
+def printed(commands, folder, program):
     """What each command of a block prints, and its status."""
-    script = ''.join('%s\necho\necho "%s $?"\n' % (command.text, MARK) for command in block)
+    script = ''.join('%s\necho\necho "%s $?"\n' % (command.text, MARK) for command in commands)
     path = os.path.dirname(program) + os.pathsep + os.environ.get('PATH', '')
     done = subprocess.run(['bash'], input=script.encode(), cwd=folder, env=dict(os.environ, PATH=path), stdout=subprocess.PIPE,
                           stderr=subprocess.STDOUT)
@@ -65,7 +81,10 @@ def faults_of(document, folder, program):
     """What is wrong with the commands of a document, and how many there are."""
     found, count = [], 0
     for block in blocks_of(contents(os.path.join(folder, document))):
-        for command, (lines, status) in zip(block, printed(block, folder, program)):
+        if missing(block):
+            sys.stderr.write('%s:%d: not run: there is no %s\n' % (document, block.commands[0].line, ', no '.join(missing(block))))
+            continue
+        for command, (lines, status) in zip(block.commands, printed(block.commands, folder, program)):
             count += 1
             is_warned = status == '1' and any('warning' in line for line in lines)
             if status != '0' and not is_warned:
@@ -93,12 +112,13 @@ def changed(folder):
 def arguments():
     parser = Parser(__doc__)
     parser.add_argument('program', nargs='?', metavar='PROGRAM', help='the built osekfit')
+    parser.add_argument('pages', nargs='*', metavar='PAGE', help='the pages whose commands are run; none: all')
     parser.add_argument('--links', action='store_true', help='looks at links and lines alone')
     return parser.parse_args()
 
 
-def run_all(program):
-    """Runs the commands of all documents in a copy: what is wrong, and how many commands there are."""
+def run_all(program, chosen):
+    """Runs the commands of these documents, or of all, in a copy: what is wrong, and how many commands there are."""
     faults, count = [], 0
     with tempfile.TemporaryDirectory(prefix='osekfit-documents-') as folder:
         at = os.path.join(folder, 'bin', 'osekfit')
@@ -109,7 +129,7 @@ def run_all(program):
         for name in COPIED:
             source = os.path.join(ROOT, name)
             (shutil.copytree if os.path.isdir(source) else shutil.copy)(source, os.path.join(clone, name))
-        for document in (page for page in pages.pages(clone) if not page.startswith('tools')):
+        for document in chosen or [page for page in pages.pages(clone) if not page.startswith('tools')]:
             found, commands = faults_of(document, clone, at)
             faults, count = faults + found, count + commands
         faults += ['%s was changed' % name for name in changed(clone)]
@@ -123,7 +143,7 @@ def main():
         program = shutil.which(words.program or '')
         if program is None:
             raise Wrong('%s: no program' % (words.program or 'PROGRAM'))
-        found, count = run_all(program)
+        found, count = run_all(program, words.pages)
         faults += found
     for fault in faults:
         sys.stdout.write(fault + '\n')

@@ -34,10 +34,10 @@ def flattened(words, carrier):
     if words.arxml:
         if words.file is None:
             raise Wrong('--arxml needs a file')
-        things, cpu = arxml.objects_of(words.file, carrier), os.path.splitext(os.path.basename(words.file))[0]
+        things, cpu = joined(arxml.objects_of(words.file, carrier)), os.path.splitext(os.path.basename(words.file))[0]
     else:
         things, cpu = objects_of_oil(words.file, words.include)
-    return list(written(name_of(cpu), carrier.carried(joined(things))))
+    return list(written(name_of(cpu), carrier.carried(things)))
 
 
 def name_of(text):

@@ -14,13 +14,16 @@ interrupt (into a routine), a return (out of it), a restart (a task that ends an
     tools/graph.py --code a.code --svg --record a.record a.show > a.svg     what `osekfit record` printed took of it, in green
     tools/graph.py --code a.code --unseen --record a.record a.show          the edges that it didn't take: a plan of tests
     tools/graph.py --code a.code --svg --alarm --record a.record a.show     with the first step that no edge has, in red
+    tools/graph.py --certificate a.image a.table .. a.show                  any of these without the edges that no run takes
 
 How many edges and points the records have is told on standard error, with --unseen on standard output. --record may be given several times.
+With a certificate, those edges of its table are left out that no run takes by what the standard guarantees (docs/GUARANTEES.md); a record that
+has one has an alarm.
 """
 import sys
 from collections import Counter
 
-from lib import graph_chart, graph_matrix, graph_record, oil
+from lib import graph_chart, graph_matrix, graph_record, oil, run_edges
 from lib.drawing import FORM_COLOURS
 from lib.given import Parser, Wrong, contents, run
 from lib.graph_record import Unmarked
@@ -114,12 +117,13 @@ def arguments():
     parser.add_argument('--record', action='append', metavar='FILE', help='what `osekfit record` printed, or a bench logged')
     parser.add_argument('--unseen', action='store_true', help='the edges that no record took, in place of a drawing')
     parser.add_argument('--alarm', action='store_true', help='draws the first step that no edge has')
+    parser.add_argument('--certificate', nargs=2, metavar=('IMAGE', 'TABLE'), help='leaves out the edges of this table that no run takes')
     return parser.parse_args()
 
 
-def marks_of(graph, words):
+def marks_of(graph, words, gone):
     """What the records took; a step that no edge has is wrong where it isn't asked for."""
-    marks = graph_record.Marks(graph)
+    marks = graph_record.Marks(graph, gone)
     for name in words.record:
         marks.take(contents(name), name)
     if marks.alarm and not words.alarm:
@@ -129,9 +133,9 @@ def marks_of(graph, words):
     return marks
 
 
-def print_recorded(words, graph, owners):
+def print_recorded(words, graph, owners, gone):
     """Prints what is asked for of the graph with records."""
-    marks = marks_of(graph, words)
+    marks = marks_of(graph, words, gone)
     graph_record.judge(marks, owners)
     (sys.stdout if words.unseen else sys.stderr).write(marks.told() + '\n')
     if marks.alarm:
@@ -166,10 +170,14 @@ def main():
     graph = read_show(contents(words.show), words.show or 'standard input')
     system = oil.system_of(contents(words.oil), words.oil) if words.oil else None
     owners = Owners(graph, contents(words.code) if words.code else None, system)
+    gone = run_edges.in_no_run(graph, *words.certificate) if words.certificate else {}
+    if gone and not words.record:
+        sys.stderr.write('graph.py: %d of %d edges are in no run, and left out\n' % (len(gone), len(graph.edges)))
+    graph = graph._replace(edges=[edge for edge in graph.edges if edge not in gone])
     if words.summary:
         sys.stdout.write(summary(around(graph, owners, words.task) if words.task else graph, owners))
     elif words.record:
-        print_recorded(words, graph, owners)
+        print_recorded(words, graph, owners, gone)
     else:
         print_drawing(words, graph, owners, Unmarked())
 

@@ -11,9 +11,11 @@ to the file that --log names.
     tools/house.py
     tools/house.py --crates                      a line for each crate
     tools/house.py --lemmas                      lemmas that nothing cites, and statements that stand twice
-    tools/house.py --gate --log gate.log
+    tools/house.py --gate --log gate.log > gate.told
+    tools/house.py --page docs/PERFORMANCE.md --told gate.told       puts what a run of the gate told into the page
 """
 import os
+import re
 import resource
 import subprocess
 import sys
@@ -24,6 +26,7 @@ from lib.contracts import bodies_of
 from lib.crates import KEPT, ROOT, made_by
 from lib.given import Parser, Wrong, contents, run
 from lib.lemmas import texts_below
+from lib.pages import with_table
 
 CRATES = os.path.join(ROOT, 'crates')
 
@@ -38,6 +41,17 @@ KINDS = ('proofs', 'tests', 'seeds', 'edits')
 
 Work = namedtuple('Work', 'crate kind kept', defaults=(None,))
 """What a process of the gate works on; of a check of an edit the folder of what those before it kept."""
+
+Told = namedtuple('Told', 'minutes unseen whole clock status')
+"""What a run of the gate told: the minutes of each crate by kind, those of `rt` itself and of what ended unseen, all of a processor, those by the
+clock, and its status."""
+
+NAMED = {'proofs': 'proofs', 'tests': 'tests and programs', 'seeds': 'the first checks of crates with several wrong changes',
+         'edits': 'the other wrong changes'}
+"""The kinds as the page names them."""
+
+DEAREST = 8
+"""How many crates the page names."""
 
 TICKS = os.sysconf('SC_CLK_TCK')
 
@@ -178,6 +192,32 @@ def row(name, sizes, minutes):
     return [name] + [format(size, ',') for size in sizes] + ([] if minutes is None else ['%.1f' % minutes[kind] for kind in KINDS])
 
 
+def read_told(text, name):
+    """What an earlier run of the gate printed."""
+    rows, minutes = [line.split() for line in text.splitlines()], {}
+    for row in rows:
+        if len(row) == 1 + len(Sizes._fields) + len(KINDS) and re.fullmatch(r'[a-z]\w*', row[0]):
+            minutes[row[0]] = Counter(dict(zip(KINDS, map(float, row[-len(KINDS):]))))
+    whole = re.search(r'(?m)^([\d.]+) minutes of a processor, ([\d.]+) of them of rt', text)
+    clock = re.search(r'(?m)^([\d.]+) minutes in all, status (\d+)', text)
+    if not (minutes and whole and clock):
+        raise Wrong('%s: not what house.py --gate prints' % name)
+    return Told(minutes, float(whole.group(2)), float(whole.group(1)), float(clock.group(1)), int(clock.group(2)))
+
+
+def told_in_page(told):
+    """The table of the page, and the dearest crates."""
+    if told.status != 0:
+        raise Wrong('this gate ended with status %d' % told.status)
+    sums = sum(told.minutes.values(), Counter())
+    rows = [('part', 'minutes of a processor'), ('---', '---')] + [(NAMED[kind], '%.1f' % sums[kind]) for kind in KINDS]
+    rows += [('`rt` itself, and what is over in a moment', '%.1f' % told.unseen), ('all', '%.1f' % told.whole)]
+    dearest = sorted(told.minutes, key=lambda crate: -sum(told.minutes[crate].values()))[:DEAREST]
+    named = '\n'.join('- `%s`: %.1f' % (crate, sum(told.minutes[crate].values())) for crate in dearest)
+    return '%s\n\nBy the clock it took %.0f minutes. The dearest crates, with all of these parts:\n\n%s\n' % (
+        '\n'.join('| %s | %s |' % row for row in rows), told.clock, named)
+
+
 def print_lemmas():
     """Prints the lemmas that nothing cites, and the statements that stand more than once."""
     texts = texts_below(CRATES)
@@ -197,13 +237,26 @@ def arguments():
     parser.add_argument('--lemmas', action='store_true', help='what nothing cites, and what is stated twice')
     parser.add_argument('--gate', action='store_true', help='runs the gate and measures it')
     parser.add_argument('--log', metavar='FILE', help='where the output of the gate goes')
+    parser.add_argument('--told', metavar='FILE', help='what a run with --gate printed')
+    parser.add_argument('--page', metavar='FILE', help='the page that this is put into')
     return parser.parse_args()
+
+
+def put_into_page(words):
+    if not words.told:
+        raise Wrong('--page wants --told')
+    page = with_table(contents(words.page), 'gate', told_in_page(read_told(contents(words.told), words.told)))
+    with open(words.page, 'w', encoding='utf-8', newline='\n') as file:
+        file.write(page)
 
 
 def main():
     words = arguments()
     if words.lemmas:
         print_lemmas()
+        return 0
+    if words.page:
+        put_into_page(words)
         return 0
     sizes = {name: sizes_of(name) for name in sorted(os.listdir(CRATES)) if os.path.isdir(os.path.join(CRATES, name, 'src'))}
     if not words.gate:

@@ -9,7 +9,8 @@ The files are read by clang, with its preprocessor; its header of the operating 
 this tool makes of the OIL text, so the generated one is left out of -I. Conditions are `?`. Behind an early exit what may be left out is an `if (?)`,
 and a `switch` is one of its groups, or, where one falls into the next, each of them or not. So each path of calls in C is one of the model, and
 the model has more. What was assumed is told on standard error. goto, recursion, calls through pointers, and arguments that are no names of the
-OIL text end with status 2. With --check the status is 1 where a path is missing.
+OIL text end with status 2; but an ActivateTask, ChainTask, ClearEvent or SetEvent by what is known at run time alone is taken to be by any task or
+events. With --check the status is 1 where a path is missing.
 """
 import sys
 
@@ -67,7 +68,7 @@ def main():
     found, notes = bodies(app, Sources(app, words.files, options))
     lines = list(code_lines(found))
     for note in notes:
-        sys.stderr.write('%s [assumed]\n' % note)
+        sys.stderr.write('%s:%d: %s [assumed]\n' % note)
     if not words.check:
         sys.stdout.write(''.join(line + '\n' for line in lines))
         return 0

@@ -8,7 +8,7 @@
     r, r1           one run by choice 0, or by choice 1; `r 5` five of them
     i NAME          an interrupt is requested (irq NAME); t NAME  a tick of a counter
     u POINT         runs until the processor is at b7 or b20/T1; or until idle, halted, T1, @ISR, %COUNTER, T1=W; `u POINT 1` by choice 1.
-                    Of the runs on the way the lines alone are shown
+                    Of the runs on the way the lines of the last few alone are shown
     b               one event back; `b 5` five of them
     s               the whole state, with why each task waits
     l               the task code around what comes next
@@ -32,6 +32,9 @@ from lib.texts import add_texts, application
 
 MOST = 1000
 """After how many runs `u` gives up."""
+
+SHOWN = 12
+"""How many lines `u` shows of the runs on the way."""
 
 
 class Session:
@@ -78,15 +81,23 @@ class Session:
     def until(self, _word, rest):
         if len(rest) not in (1, 2) or rest[1:] not in ([], ['0'], ['1']):
             raise Wrong('u takes a point, or a state, and perhaps a choice')
-        wanted, lines = self.stepping.known(rest[0]), []
-        for _ in range(MOST):
-            if self.stepping.has(wanted):
-                break
-            self.say(lines[:1])
-            lines = self.stepping.do(['run', *(rest[1:] or ['0'])])
-        self.say(lines)
+        wanted, told = self.stepping.known(rest[0]), []
+        try:
+            while not self.stepping.has(wanted) and len(told) < MOST:
+                self.stepping.judge_rest(wanted)
+                told.append(self.stepping.do(['run', *(rest[1:] or ['0'])]))
+        finally:
+            self.say_way(told)
         if not self.stepping.has(wanted):
             raise Wrong('%s did not come within %d runs' % (wanted, MOST))
+
+    def say_way(self, told):
+        """Says the line of each of the last runs, and the last one whole."""
+        if len(told) > SHOWN:
+            self.say(['  .. %d runs' % (len(told) - SHOWN)])
+        for lines in told[-SHOWN:-1]:
+            self.say(lines[:1])
+        self.say(told[-1] if told else [])
 
     def back(self, _word, rest):
         self.say(self.stepping.back(number(rest[0]) if rest else 1))

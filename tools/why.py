@@ -9,6 +9,7 @@ run that has it.
 What may be is told by the least table of the model in model.py, which is for small applications. Where it is too large, a built osekfit is asked
 that --program names, or that is found: its certificate has the table. Without one runs alone are looked for. The table keeps no relation between
 two tasks. So it may have two outcomes where runs have one: this is said too, for certain where all states of the application were looked at.
+And it may have values that no run has by what the standard guarantees: these stand apart, with the law of docs/GUARANTEES.md that says so.
 """
 import os
 import re
@@ -16,6 +17,7 @@ import re
 from lib import opened
 from lib.certified import table_of
 from lib.given import Parser, Wrong, contents, run
+from lib.guarantees import Guarantees
 from lib.least_table import MOST_ASKED, Analysis, form
 from lib.model_trace import events_of, line, play
 from lib.points import block_of, shown_point
@@ -47,30 +49,35 @@ class Site:
         return 'the processor becomes idle' if outcome.task is None else '%s is dispatched' % self.app.tasks[outcome.task].name
 
     def table_lines(self):
-        """What each task may be doing at the site's points, those of the highest priority first."""
-        table, wording = self.table, Wording(self.app)
-        order = sorted(range(len(self.app.tasks)), key=lambda t: -self.app.tasks[t].priority)
-        for point in sorted(p for p in table if block_of(p) == self.block):
+        """What each task may be doing at the site's points, those of the highest priority first, and the routines that may have begun."""
+        wording, guarantees, left = Wording(self.app), Guarantees(self.app), []
+        for point in sorted(p for p in self.table if block_of(p) == self.block):
             yield 'at %s' % shown_point(self.app, point)
-            for t in order:
-                task = self.app.tasks[t]
-                kind = '' if task.is_full else ', not preemptable'
-                yield '  %s, priority %d%s: %s' % (task.name, task.priority, kind, wording.task(point, t, table[point][t]))
-            yield from ('  ' + text for text in self.routine_lines(point, table[point], wording))
-        yield from self.ceiling_lines(table)
+            parted = guarantees.parted(point, self.table[point])
+            left.append(parted.left)
+            for part, name in self.parts(self.table[point]):
+                yield '  %s: %s' % (name, wording.part(point, part, parted.left[part]) or 'nothing that a run has')
+                yield from ('    in no run, by %s: %s' % (law, wording.part(point, part, values)) for law, values in parted.gone[part].items())
+        yield from self.ceiling_lines(left)
 
-    def routine_lines(self, point, sets, wording):
-        """Where the routines are that may have begun here, besides the one whose site it is."""
-        for source, values in list(zip(self.app.sources[::-1], sets[::-1])) if opened.has(opened.NESTED) else []:
-            if list(values) != [(OUT,)] and source.name != self.owner.name:
-                yield '%s%s, priority %d: %s' % (source.mark, source.name, source.priority, wording.routine(point, values))
+    def parts(self, sets):
+        """The numbers of what is told of a point, each with its name: the tasks, and the routines beside the one whose site it is."""
+        for t in sorted(range(len(self.app.tasks)), key=lambda t: -self.app.tasks[t].priority):
+            task = self.app.tasks[t]
+            yield t, '%s, priority %d%s' % (task.name, task.priority, '' if task.is_full else ', not preemptable')
+        first = len(sets) - len(self.app.sources)
+        for part, source in list(enumerate(self.app.sources, first))[::-1] if opened.has(opened.NESTED) else []:
+            if list(sets[part]) != [(OUT,)] and source.name != self.owner.name:
+                yield part, '%s%s, priority %d' % (source.mark, source.name, source.priority)
 
-    def ceiling_lines(self, table):
+    def ceiling_lines(self, points):
         """What resources that are held here do to a priority."""
-        values = [fields for p, sets in table.items() if block_of(p) == self.block for found in sets[:len(self.app.tasks)] for fields in found]
-        internal = {self.app.internal[t] for p, sets in table.items() if block_of(p) == self.block
-                    for t, found in enumerate(sets[:len(self.app.tasks)]) for fields in found if fields[3:4] == (1,)}
-        for resource in (self.app.resources[r] for r in sorted({r for fields in values for r in fields[HELD:]} | internal)):
+        found = set()
+        for sets in points:
+            for t, values in enumerate(sets[:len(self.app.tasks)]):
+                found.update(r for fields in values for r in fields[HELD:])
+                found.update([self.app.internal[t]] if any(fields[3:4] == (1,) for fields in values) else [])
+        for resource in (self.app.resources[r] for r in sorted(found)):
             if resource.ceiling:
                 yield 'who holds %s is just above priority %d' % (resource.name, resource.ceiling // 2)
 

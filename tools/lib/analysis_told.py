@@ -4,6 +4,7 @@ from collections import namedtuple
 
 from lib import findings
 from lib.certified import table_of
+from lib.guarantees import Guarantees
 from lib.least_table import MOST_ASKED, Analysis, show
 from lib.margin import Facts, facts_of_analysis, facts_of_texts
 from lib.points import points_of, shown_point
@@ -56,14 +57,18 @@ def edges_data(known, code, system):
 
 
 def table_data(app, table, reached):
-    """The table's states at each point, in words that are kept once. Of too many points those alone are told that were reached."""
+    """The table's states at each point, in words that are kept once, and what no run has of them. Of too many points those alone are told that were
+    reached."""
     if table is None:
         return None
-    wording, numbers = Wording(app), {}
+    wording, guarantees, numbers = Wording(app), Guarantees(app), {}
     points = [(point, shown_point(app, point)) for point in points_of(app) if point in table]
-    is_part = len(points) > MOST_TOLD
-    told = {text: [numbers.setdefault(words, len(numbers)) for _, words in wording.parts(point, table[point])]
-            for point, text in points if not is_part or text in reached}
+    is_part, told = len(points) > MOST_TOLD, {}
+    for point, text in points:
+        if not is_part or text in reached:
+            lines = [words for _, words in wording.parts(point, table[point])]
+            lines += wording.in_no_run(point, guarantees.parted(point, table[point]).gone)
+            told[text] = [numbers.setdefault(words, len(numbers)) for words in lines]
     return {'words': list(numbers), 'points': told, 'isPart': is_part}
 
 

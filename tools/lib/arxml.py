@@ -33,6 +33,8 @@ KINDS = {'OsOS': 'OS', 'OsTask': 'TASK', 'OsIsr': 'ISR', 'OsCounter': 'COUNTER',
          'OsAppMode': 'APPMODE', 'OsScheduleTable': 'SCHEDULETABLE', 'OsSpinlock': 'SPINLOCK', 'OsApplication': 'OSAPPLICATION'}
 """What a container is in OIL; the last three are named as what isn't carried."""
 
+CORES = 'OsNumberOfCores'
+
 ACTIONS = {
     'OsAlarmActivateTask': ('ACTIVATETASK', {'OsAlarmActivateTaskRef': 'TASK'}),
     'OsAlarmSetEvent': ('SETEVENT', {'OsAlarmSetEventTaskRef': 'TASK', 'OsAlarmSetEventRef': 'EVENT'}),
@@ -109,9 +111,13 @@ class Maker:
         return Part(name, self.token(text, line), self.token(name, line), list(parts))
 
     def things(self, found):
-        return [self.thing(one) for one in found if one.kind in KINDS]
+        """The objects of the outermost containers. Of an OS's other kinds there is the name alone, to be told that they are dropped."""
+        inner = [part for one in found for part in [one] + one.parts if part.kind in KINDS]
+        others = [one for one in found if one.kind.startswith('Os') and one.kind not in KINDS]
+        return [self.thing(one) for one in inner] + [Thing(one.kind, one.name, self.token(one.kind, one.line), []) for one in others]
 
     def thing(self, found):
+        self.judge_cores(found)
         parts = list(self.values(found, VALUES.get(found.kind, {})))
         for inner in found.parts:
             parts += self.inner(found, inner)
@@ -119,12 +125,17 @@ class Maker:
             parts.append(self.part('CATEGORY', '2', found.line))
         return Thing(KINDS[found.kind], found.name, self.token(KINDS[found.kind], found.line), parts)
 
+    def judge_cores(self, found):
+        for word, (text, line) in found.values:
+            if word == CORES and text.strip() not in ('', '0', '1'):
+                self.notes.note(self.token(word, line), '%s cores: all tasks are taken to run on one, one at a time' % text, True)
+
     def values(self, found, meant):
         """The attributes of a container's parameters and references; of others it is noted that they are passed over."""
         for word, (text, line) in found.values + found.references:
             if word in meant:
                 yield self.part(meant[word], self.word(meant[word], last_word(text)), line)
-            else:
+            elif word != CORES:
                 self.notes.passed[(found.kind, word, '')] += 1
 
     def word(self, name, text):
@@ -154,8 +165,7 @@ class Maker:
 def objects_of(name, notes):
     """The objects of the OS configuration in a file, and the name of their package; what is passed over goes to the notes."""
     found = containers(element_of(data(name), name))
-    inner = [part for one in found for part in [one] + one.parts]
-    things = Maker(name, notes).things(inner)
+    things = Maker(name, notes).things(found)
     if not things:
         raise Wrong('%s: there are no ECUC values of an OS' % name)
     if 'OS' not in [thing.kind for thing in things]:

@@ -1,5 +1,7 @@
 """Task code of C functions, for model_c.py. Each path of the C code is a list of choices of it: a condition is `?`, and what is left out behind an
 early exit is a choice. So there are more paths than C has, and never fewer."""
+import itertools
+import operator
 from collections import namedtuple
 
 from lib.application import SHAPES
@@ -27,11 +29,22 @@ TRANSPARENT = {'ImplicitCastExpr', 'ParenExpr', 'CStyleCastExpr', 'ConstantExpr'
 NO_VALUE = {'UnaryExprOrTypeTraitExpr'}
 """Expressions that aren't evaluated."""
 
+WIDTHS = {'_Bool': 1, 'char': 7, 'signed char': 7, 'unsigned char': 8, 'short': 15, 'unsigned short': 16, 'int': 31, 'unsigned int': 32, 'long': 31,
+          'unsigned long': 32, 'long long': 63, 'unsigned long long': 64}
+"""The bits of the numbers from 0 on that each type has at least, where `int` has 32 bits."""
+
 REFUSED = {'GotoStmt': 'goto', 'IndirectGotoStmt': 'goto', 'LabelStmt': 'a label', 'CaseStmt': 'a case within another statement',
-           'DefaultStmt': 'a default within another statement', 'GenericSelectionExpr': '_Generic', 'ChooseExpr': '__builtin_choose_expr'}
+           'DefaultStmt': 'a default within another statement', 'GenericSelectionExpr': '_Generic', 'ChooseExpr': '__builtin_choose_expr',
+           'CleanupAttr': 'a variable with a cleanup function'}
 
 WITHOUT_EFFECT = {'GetAlarmBase', 'StartOS'}
 """Services that task code doesn't have, and that change nothing that it speaks of."""
+
+OPEN = {'ActivateTask': 0, 'ChainTask': 0, 'ClearEvent': 0, 'SetEvent': 1}
+"""The services of which one argument need not be known, each with the place of that."""
+
+MOST_OPEN = 16
+"""Among how many calls one may be left open: so many tasks, or the sets of four events."""
 
 JUMPS = {'longjmp', '_longjmp', 'siglongjmp', '__builtin_longjmp'}
 """Functions that leave others without a return."""
@@ -69,27 +82,44 @@ def stripped(node):
     return node
 
 
+OPERATIONS = {'+': operator.add, '-': operator.sub, '*': operator.mul, '/': lambda left, right: left // right if right else None,
+              '%': lambda left, right: left % right if right else None, '<<': lambda left, right: left << min(right, 64), '>>': operator.rshift,
+              '&': operator.and_, '|': operator.or_}
+"""What operators give of numbers that aren't negative."""
+
+
 def constant(node):
-    """The value of a whole number, or None."""
-    node = stripped(node)
-    if node.get('kind') in ('IntegerLiteral', 'CharacterLiteral'):
-        return int(node['value'])
-    if node.get('kind') == 'BinaryOperator':
+    """The value of a whole number that isn't negative, or None where that isn't sure."""
+    kind, found = node.get('kind'), None
+    if kind in TRANSPARENT:
+        found = constant(node['inner'][-1])
+    elif kind in ('IntegerLiteral', 'CharacterLiteral'):
+        found = int(node['value'])
+    elif kind == 'DeclRefExpr':
+        found = node['referencedDecl'].get('value')
+    elif kind == 'BinaryOperator' and node['opcode'] in OPERATIONS:
         left, right = map(constant, node['inner'])
-        found = {'+': lambda: left + right, '-': lambda: left - right, '*': lambda: left * right, '<<': lambda: left << right}.get(node['opcode'])
-        return found() if found and None not in (left, right) else None
-    return None
+        found = OPERATIONS[node['opcode']](left, right) if None not in (left, right) else None
+    return fitting(node, found)
+
+
+def fitting(node, value):
+    """A value that is the same in the type of an expression, else None."""
+    said = node.get('type', {})
+    words = said.get('desugaredQualType', said.get('qualType', '')).split()
+    name = ' '.join(word for word in words if word not in ('const', 'volatile'))
+    return value if value is not None and 0 <= value < 1 << WIDTHS.get(name, 0) else None
 
 
 class Maker:
-    """Makes the nodes of functions. The notes say what was assumed, by places."""
+    """Makes the nodes of functions. The notes say what was assumed: of each the file, the line and the text."""
 
     def __init__(self, app, sources):
         self.app, self.sources, self.notes, self.stack = app, sources, [], []
         self.known = {'t': app.task_number, 'r': app.resource_number, 'a': app.alarm_number, 'm': app.events}
 
     def note(self, node, text):
-        found = '%s:%d: %s' % (*place_of(node), text)
+        found = (*place_of(node), text)
         if found not in self.notes:
             self.notes.append(found)
 
@@ -260,24 +290,54 @@ class Maker:
         inner = [self.calls(one, names) for one in node.get('inner', [])]
         if kind == 'BinaryOperator' and node.get('opcode') in ('&&', '||'):
             return inner[0] + ([Choice(inner[1], [])] if inner[1] else [])
-        if kind in ('ConditionalOperator', 'BinaryConditionalOperator'):
+        if kind == 'ConditionalOperator':
             return inner[0] + ([Choice(*inner[-2:])] if any(inner[-2:]) else [])
-        if sum(1 for one in inner if one) > 1:
+        if kind == 'BinaryConditionalOperator':
+            return inner[0] + ([Choice(inner[-1], [])] if inner[-1] else [])
+        return self.in_order(node, inner)
+
+    def in_order(self, node, parts):
+        """The calls of the parts of an expression."""
+        if sum(1 for one in parts if one) > 1 and node.get('opcode') != ',':
             self.note(node, 'the calls in one expression are taken from left to right')
-        return [found for one in inner for found in one]
+        return [found for one in parts for found in one]
 
     def call(self, node, names):
         callee, *arguments = node['inner']
         function = stripped(callee).get('referencedDecl', {})
-        before = [found for one in arguments for found in self.calls(one, names)]
+        before = self.in_order(node, [self.calls(one, names) for one in arguments])
         if function.get('kind') != 'FunctionDecl':
             stop(node, 'a call through a pointer: write out which functions it may call')
         word = function['name']
         if word in SHAPES:
-            return before + [Call(word, self.arguments(word, arguments, names), place_of(node))]
+            return before + self.service(word, node, arguments, names)
         if word in WITHOUT_EFFECT:
             return before
         return before + self.written_out(node, word, arguments, names)
+
+    def service(self, word, node, arguments, names):
+        """The call of a service; where a task or events are known at run time alone, the call by any of them, or none."""
+        place = OPEN.get(word)
+        if place is None or self.value(arguments[place], names) is not None:
+            return [Call(word, self.arguments(word, arguments, names), place_of(node))]
+        known = [self.argument(word, SHAPES[word][k], arguments[k], names) for k in range(place)]
+        whose, found = self.any_of(word, known), []
+        if not 0 < len(whose) <= MOST_OPEN:
+            return [Call(word, self.arguments(word, arguments, names), place_of(node))]
+        self.note(node, '%s is called by what is known at run time alone: taken to be by any of %d, or not at all' % (word, len(whose)))
+        for one in reversed(whose):
+            found = [Choice([Call(word, known + [one], place_of(node))], found)]
+        return found
+
+    def any_of(self, word, known):
+        """All tasks, or all sets of events of the task that is known, else of the one whose body this is."""
+        if SHAPES[word][0] == 't' and not known:
+            return [task.name for task in self.app.tasks]
+        owner = known[0] if known else self.stack[0].name[len(TASK):]
+        events = next((task.events for task in self.app.tasks if task.name == owner), [])
+        if len(events) > MOST_OPEN:
+            return []
+        return [' | '.join(some) for count in range(1, len(events) + 1) for some in itertools.combinations(events, count)]
 
     def written_out(self, node, word, arguments, names):
         """The nodes of a function that is called."""
@@ -325,6 +385,8 @@ class Maker:
         found = self.value(node, names)
         if letter == 's':
             name = stripped(node).get('referencedDecl', {}).get('name')
+            if name not in STATUSES:
+                self.note(node, 'the status of ShutdownOS is not said by its name, and taken to be %s' % STATUSES[0])
             return name if name in STATUSES else STATUSES[0]
         if letter == 'n' and isinstance(found, int):
             return str(found)
@@ -333,8 +395,14 @@ class Maker:
         stop(node, '%s by what is no %s of the OIL text' % (word, {'n': 'number', 't': 'task', 'r': 'resource', 'a': 'alarm', 'm': 'event'}[letter]))
 
 
+def names_it(node, key):
+    return node.get('referencedDecl', {}).get('id') == key or any(names_it(one, key) for one in node.get('inner', []))
+
+
 def is_written(node, key):
-    """Whether a body writes a parameter, or takes its address."""
+    """Whether a body writes a parameter, takes its address, or has it in assembler."""
+    if node.get('kind') == 'GCCAsmStmt' and names_it(node, key):
+        return True
     is_write = node.get('kind') == 'UnaryOperator' and node.get('opcode') in ('&', '++', '--') or node.get('kind') == 'CompoundAssignOperator' or \
         node.get('kind') == 'BinaryOperator' and node.get('opcode') == '='
     if is_write and stripped(node['inner'][0]).get('referencedDecl', {}).get('id') == key:
@@ -352,7 +420,7 @@ def bodies(app, sources):
         if function is None:
             raise Wrong('no file has %s' % head)
         found.append((head, maker.of(function, {})))
-    return found, maker.notes
+    return found, sorted(maker.notes)
 
 
 # Writing.

@@ -8,8 +8,9 @@ from collections import namedtuple
 
 from lib.given import Wrong
 
-Function = namedtuple('Function', 'name file is_static parameters body')
-"""A function that has a body: its name and file, whether other files see it, the ids of its parameters, and the tree of its body."""
+Function = namedtuple('Function', 'name file is_static is_weak parameters body')
+"""A function that has a body: its name and file, whether other files see it, whether it gives way to another one of the name, the ids of its
+parameters, and the tree of its body."""
 
 PLACES = ('loc', 'range', 'begin', 'end', 'spellingLoc', 'expansionLoc')
 
@@ -86,24 +87,30 @@ class Sources:
             body = next((one for one in node.get('inner', []) if one.get('kind') == 'CompoundStmt'), None)
             if node['kind'] == 'FunctionDecl' and body:
                 parameters = [one['id'] for one in node['inner'] if one['kind'] == 'ParmVarDecl']
-                self.functions.append(Function(node['name'], name, node.get('storageClass') == 'static', parameters, body))
+                is_weak = any(one['kind'] == 'WeakAttr' for one in node['inner'])
+                self.functions.append(Function(node['name'], name, node.get('storageClass') == 'static', is_weak, parameters, body))
 
     def named(self, name, file):
-        """The function that a name means in a file, or None."""
-        found = [one for one in self.functions if one.name == name]
-        return next((one for one in found if one.file == file), next((one for one in found if not one.is_static), None))
+        """The function that a name means in a file, or None: one of its own, else the one that a linker takes."""
+        found = [one for one in self.functions if one.name == name and (one.file == file or not one.is_static)]
+        return min(found, key=lambda one: (one.is_weak, one.file != file), default=None)
 
 
 class Lines:
-    """Writes file and line to each place of a tree: clang leaves out what is as in the place before."""
+    """Writes file and line to each place of a tree, where clang leaves out what is as in the place before; and its value to each name of an
+    enumerator."""
 
     def __init__(self):
-        self.file, self.line = '', 0
+        self.file, self.line, self.enumerators = '', 0, {}
 
     def walk(self, node):
         """Goes through a tree in its order; the ids of the variables that are declared as extern."""
         if node.get('kind') == 'VarDecl' and node.get('storageClass') == 'extern':
             yield node['id']
+        if node.get('kind') == 'EnumDecl':
+            self.enumerators.update(enumerators(node))
+        if node.get('kind') == 'DeclRefExpr' and node['referencedDecl']['id'] in self.enumerators:
+            node['referencedDecl']['value'] = self.enumerators[node['referencedDecl']['id']]
         for key, value in list(node.items()):
             if key in PLACES and isinstance(value, dict):
                 self.place(value)
@@ -118,6 +125,16 @@ class Lines:
         for key, inner in value.items():
             if key in PLACES and isinstance(inner, dict):
                 self.place(inner)
+
+
+def enumerators(node):
+    """The values of the enumerators of an enumeration, by their ids."""
+    last = -1
+    for one in node.get('inner', []):
+        if one['kind'] == 'EnumConstantDecl':
+            said = next((part['value'] for part in one.get('inner', []) if part['kind'] == 'ConstantExpr' and 'value' in part), None)
+            last = int(said) if said is not None else last + 1
+            yield one['id'], last
 
 
 def place_of(node):

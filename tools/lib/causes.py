@@ -6,7 +6,10 @@ import re
 
 from lib import application, image_reader, lint_oil, locks, oil, task_code
 from lib.given import Wrong, contents, data
-from lib.points import points_of, shown_point
+from lib.guarantees import Guarantees
+from lib.points import block_of, points_of, shown_point
+from lib.table_bytes import table_told
+from lib.table_words import Wording
 from lib.task_code import Owner
 from lib.tokens import HINT, is_name, number_of, tokens_of
 
@@ -133,6 +136,18 @@ def modes(command):
         return []
     changed = ['here: %s is a file, and the mode comes before the events' % mode] if os.path.exists(mode) else []
     return changed + ['there are: ' + ', '.join(there)]
+
+
+def in_no_run(command, place):
+    """What the table of a `check` has and no run has, at the point that is named, or at those of the block."""
+    try:
+        app = image_reader.read_image(data(command[1]), command[1]).app
+        table, guarantees, wording = table_told(app, data(command[2]), command[2]), Guarantees(app), Wording(app)
+    except (Wrong, OSError, IndexError):
+        return []
+    points = [point for point in table if place in (shown_point(app, point), 'b%s' % block_of(point))]
+    lines = [text for point in points for text in wording.in_no_run(point, guarantees.parted(point, table[point]).gone)]
+    return list(dict.fromkeys(lines))
 
 
 def missing(texts, _):

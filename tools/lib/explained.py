@@ -21,6 +21,9 @@ FROM = re.compile(r'  // from (.+:\d+)$')
 MOST_SHOWN = 160
 """How much of a long source line is shown."""
 
+MOST_TOLD = 5
+"""How many values of a table are told that no run has."""
+
 
 def rules_of(guide):
     """The rows of the guide's tables of rules: what a rule means, and where to look first. A rule that has a row for OIL and one for task
@@ -42,8 +45,9 @@ def explained(refusal, words, rules):
     """The lines that explain a refusal."""
     denial = DENIAL.fullmatch(refusal)
     if denial and denial['rule'] in rules:
+        told = causes.in_no_run(words, denial['place'])[:MOST_TOLD]
         return ['%s: error: %s at %s: %s' % (denial['file'], denial['rule'], denial['place'], rules[denial['rule']][0]),
-                '    look first: ' + rules[denial['rule']][1]]
+                *('    the table has what is ' + text for text in told), '    look first: ' + rules[denial['rule']][1]]
     match = REFUSAL.fullmatch(refusal)
     if not match or match['rule'] not in rules:
         return []

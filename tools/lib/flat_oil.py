@@ -3,7 +3,7 @@ changes."""
 from collections import Counter, namedtuple
 
 from lib.given import Wrong
-from lib.lint_oil import WITHIN, known_of, nearest
+from lib.lint_oil import REFERENCES, WITHIN, known_of, nearest
 from lib.oil_tokens import Token
 from lib.tokens import is_name, number_of
 
@@ -30,6 +30,8 @@ DROPPED = {
     'SPINLOCK': 'there is one core',
     'APPLICATION': 'there is one application: no protection, and no restart of a part',
     'OSAPPLICATION': 'there is one application: no protection, and no restart of a part',
+    'OsIoc': 'there is no communication between applications',
+    'OsPeripheralArea': 'there is no memory protection',
 }
 """What it changes that objects of a kind are dropped."""
 
@@ -40,11 +42,15 @@ PROTECTION = {'TIMING_PROTECTION': 'no budget runs out, and no task is ended for
 """Attributes that change runs elsewhere."""
 
 
+NO_DEFAULTS = {'AUTO', 'NO_DEFAULT'}
+"""Words in a default's place that are none."""
+
+
 class Reader:
-    """Reads the objects of tokens."""
+    """Reads the objects of tokens, and what IMPLEMENTATION parts say of attributes that objects don't have."""
 
     def __init__(self, tokens):
-        self.tokens, self.place = tokens, 0
+        self.tokens, self.place, self.defaults = tokens, 0, {}
 
     def ahead(self):
         return self.tokens[self.place].text if self.place < len(self.tokens) else ''
@@ -65,7 +71,7 @@ class Reader:
         return self.take()
 
     def objects(self):
-        """The objects of all CPU parts, the name of the first one, and how many IMPLEMENTATION parts there were."""
+        """The objects of all CPU parts, and the name of the first one."""
         found, name = [], None
         while self.place < len(self.tokens):
             word = self.take()
@@ -74,7 +80,7 @@ class Reader:
                 self.take()
             elif word.text == 'IMPLEMENTATION':
                 self.take()
-                self.pass_braces()
+                self.implementation()
             elif word.text == 'CPU':
                 name = name or self.take()
                 self.place += self.ahead() != '{'
@@ -83,14 +89,37 @@ class Reader:
                 self.place -= 1
                 self.stop('OIL_VERSION, IMPLEMENTATION or CPU is wanted, not %s' % word.text)
             self.end()
-        return found, name
+        return [self.with_defaults(thing) for thing in joined(found)], name
 
-    def pass_braces(self):
+    def implementation(self):
+        """Keeps the defaults of the attributes that it defines, by kinds."""
         self.want('{')
-        depth = 1
-        while depth:
-            text = self.take().text
-            depth += (text == '{') - (text == '}')
+        while self.ahead() != '}':
+            kind = self.take().text
+            self.want('{')
+            while self.ahead() != '}':
+                self.definition(kind)
+            self.take()
+            self.end()
+        self.take()
+
+    def definition(self, kind):
+        """An attribute's definition: its type, its range and its name, and perhaps `=` and its default."""
+        words, depth = [], 0
+        while depth or self.ahead() != ';':
+            word = self.take()
+            depth += (word.text in '[{') - (word.text in ']}')
+            words += [word] if depth == 0 and word.text not in ']}' else []
+        self.take()
+        for name, sign, value in zip(words, words[1:], words[2:]):
+            if sign.text == '=' and (name.text == 'MASK' or value.text not in NO_DEFAULTS):
+                self.defaults[(kind, name.text)] = Part(name.text, value, name, [])
+
+    def with_defaults(self, thing):
+        """An object with the defaults of the attributes that osekfit's language has and that it doesn't say."""
+        there = {part.name for part in thing.parts}
+        more = [self.defaults[(thing.kind, name)] for name in sorted(known_of(thing.kind)) if name not in there and (thing.kind, name) in self.defaults]
+        return thing._replace(parts=thing.parts + more)
 
     def end(self):
         if self.ahead() == ':':
@@ -187,10 +216,13 @@ class Carrier:
 
     def part(self, thing, part, path):
         text = part.value.text
-        if not is_name(text) and number_of(text.lstrip('+-')) is None:
-            self.note(part.token, '%s = %s of %s %s is dropped: numbers are whole here' % (part.name, text, thing.kind, thing.name), True)
+        if text[:1] == '"' and part.name in REFERENCES and is_name(text[1:-1]):
+            part = part._replace(value=part.value._replace(text=text[1:-1]))
+        elif not is_name(text) and number_of(text.lstrip('+-')) is None:
+            why = 'a text is no value here' if text[:1] == '"' else 'numbers are whole here'
+            self.note(part.token, '%s = %s of %s %s is dropped: %s' % (part.name, text, thing.kind, thing.name, why), True)
             return []
-        within = WITHIN.get((thing.kind, part.name, text), set())
+        within = WITHIN.get((thing.kind, part.name, part.value.text), set())
         return [part._replace(parts=self.parts(thing, part.parts, within, path + (part.name,)))]
 
     def without_linked(self, things):

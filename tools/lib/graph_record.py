@@ -28,8 +28,9 @@ class Marks:
 
     is_drawn = True
 
-    def __init__(self, graph):
-        self.graph, self.listed = graph, set(graph.edges)
+    def __init__(self, graph, gone=None):
+        """The edges that are gone are in no run, each by a law."""
+        self.graph, self.listed, self.gone = graph, set(graph.edges), gone or {}
         self.taken, self.points, self.alarm = set(), set(), None
 
     def take(self, text, name):
@@ -58,13 +59,15 @@ class Marks:
     def told(self):
         """How much was seen, in numbers."""
         most = self.graph.counts.get('points')
-        return 'edges %d of %d, points %d%s' % (len(self.taken), len(self.listed), len(self.points), '' if most is None else ' of %d' % most)
+        told = 'edges %d of %d, points %d%s' % (len(self.taken), len(self.listed), len(self.points), '' if most is None else ' of %d' % most)
+        return told + (', and %d edges of the table in no run' % len(self.gone) if self.gone else '')
 
     def told_alarm(self):
         """The first alarm, and what might have come."""
         name, place, (before, after) = self.alarm
         others = [text_of(q) for p, q in self.graph.edges if p == before and q != p]
-        return '%s: alarm %d %s; may follow %s: %s' % (name, place, text_of(after), text_of(before), ', '.join(others) or 'nothing')
+        law = '' if self.alarm.edge not in self.gone else ', which the table has and no run, by %s' % self.gone[self.alarm.edge]
+        return '%s: alarm %d %s%s; may follow %s: %s' % (name, place, text_of(after), law, text_of(before), ', '.join(others) or 'nothing')
 
 
 def points_of(text, name):

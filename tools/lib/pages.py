@@ -2,7 +2,7 @@
 import os
 import re
 
-from lib.given import contents
+from lib.given import Wrong, contents
 
 WIDEST_LINE, WIDEST_ROW = 110, 220
 """The most columns of a line of prose, and of a row of a table; a longer row is a list."""
@@ -51,6 +51,16 @@ def leads(root, page, target, anchor):
     """Whether a link of a page leads to a file, and to a heading there."""
     file = os.path.normpath(os.path.join(root, os.path.dirname(page), target) if target else os.path.join(root, page))
     return os.path.exists(file) and (not anchor or anchor in anchors_of(contents(file)))
+
+
+def with_table(page, name, text):
+    """A page with another text between the marks of this name."""
+    begin, end = '<!-- %s -->\n' % name, '<!-- end of %s -->\n' % name
+    before, found, rest = page.partition(begin)
+    _, ended, after = rest.partition(end)
+    if not found or not ended:
+        raise Wrong('the page has no marks of %s' % name)
+    return before + begin + text + end + after
 
 
 def widest(line):

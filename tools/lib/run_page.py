@@ -10,7 +10,7 @@ from lib.show_reader import read_show, text_of
 
 FOLDER = os.path.join(os.path.dirname(os.path.abspath(__file__)), 'page')
 
-SCRIPTS = ['run.js', 'timeline.js', 'panes.js', 'view.js']
+SCRIPTS = ['run.js', 'timeline.js', 'paper.js', 'panes.js', 'view.js']
 
 
 def part(name):
@@ -62,8 +62,9 @@ def page_of(words, run, known, texts, records):
     name = os.path.basename(words.code)
     values = {
         'TITLE': html.escape(words.title or os.path.splitext(name)[0]), 'CODE': html.escape(name), 'LAST': str(run.count - 1),
-        'ABOUT': html.escape('%s, %s in the mode %s; forms and table by %s' % (
-            os.path.basename(words.oil), os.path.basename(words.events), words.mode, known.source)),
+        'ABOUT': html.escape('%s, %s in the mode %s; %s %s' % (
+            os.path.basename(words.oil), os.path.basename(words.events), words.mode,
+            'forms and table by' if known.show else 'without forms and table:', known.source)),
         'STYLE': part('style.css'), 'DATA': embedded(page_data(run.app, run, known, texts, records)),
         'SCRIPT': '\n'.join(part(script) for script in SCRIPTS),
     }

@@ -1,4 +1,4 @@
-"""What lint.py finds in the form of SARIF 2.1.0, which servers that show findings beside the lines of a change read."""
+"""What lint.py finds and explain.py tells in the form of SARIF 2.1.0, which servers that show findings beside the lines of a change read."""
 import json
 import os
 import re
@@ -24,15 +24,33 @@ def found_errors(lines):
     return found
 
 
+REFUSED = re.compile(r'(?P<file>.+?):(?:(?P<line>\d+):)? error: (?P<rule>[A-Z]+\d+)(?P<place> at [^:]+)?: (?P<text>.*)')
+"""The first line of what explain.py tells of a refusal: of a text its line, of an image or a table the place in it."""
+
+
+def refusals(lines, status):
+    """What explain.py tells of a refusal, as one error; where no rule is refused it is of no file, and its rule is the status."""
+    if status == 0:
+        return []
+    match = REFUSED.fullmatch(lines[0]) if lines else None
+    behind = [line.strip() for line in lines[1:]]
+    if not match:
+        return [(None, 0, '\n'.join(lines[:1] + behind) or 'status %d' % status, 'status %d' % status)]
+    text = (match['place'].strip() + ': ' if match['place'] else '') + match['text']
+    return [(match['file'], int(match['line'] or 1), '\n'.join([text] + behind), match['rule'])]
+
+
 def result(file, line, text, rule, level):
-    region = {'region': {'startLine': max(1, line)}}
-    place = {'artifactLocation': {'uri': file.replace(os.sep, '/')}, **region}
-    return {'ruleId': rule, 'level': level, 'message': {'text': text}, 'locations': [{'physicalLocation': place}]}
+    found = {'ruleId': rule, 'level': level, 'message': {'text': text}}
+    if file is None:
+        return found
+    place = {'artifactLocation': {'uri': file.replace(os.sep, '/')}, 'region': {'startLine': max(1, line)}}
+    return {**found, 'locations': [{'physicalLocation': place}]}
 
 
-def log(errors, warnings):
+def log(errors, warnings, tool='osekfit lint'):
     """The log of errors and warnings, each a file, a line, a text and a rule."""
     results = [result(*one, 'error') for one in errors] + [result(*one, 'warning') for one in warnings]
-    driver = {'name': 'osekfit lint', 'version': contents(os.path.join(ROOT, 'VERSION')).strip(),
+    driver = {'name': tool, 'version': contents(os.path.join(ROOT, 'VERSION')).strip(),
               'rules': [{'id': rule} for rule in dict.fromkeys(one['ruleId'] for one in results)]}
     return json.dumps({'$schema': SCHEMA, 'version': '2.1.0', 'runs': [{'tool': {'driver': driver}, 'results': results}]}, indent=1) + '\n'

@@ -61,6 +61,12 @@ class Stepping:
     def has(self, wanted):
         return not self.trapped and has(self.app, self.state(), wanted)
 
+    def judge_rest(self, wanted):
+        """Stops where no run brings anything but a request does."""
+        state = self.steps[-1][0].state if not self.trapped else None
+        if state and (state.processor == HALTED or state.processor == IDLE and self.kernel.arriving(state) is None):
+            raise Wrong('%s does not come: the processor is %s%s' % (wanted, state.processor, ', and a request is wanted' if state.processor == IDLE else ''))
+
     # What is kept.
 
     def events(self):

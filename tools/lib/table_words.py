@@ -27,6 +27,33 @@ class Wording:
             if list(values) != [(OUT,)]:
                 yield source.name, '%s%s: %s' % (source.mark, source.name, self.routine(point, values))
 
+    def part(self, point, part, values):
+        """What a component may be doing, by its number; None of an alarm."""
+        bits, alarms, sources = self.firsts()
+        if part < bits:
+            return self.task(point, part, values)
+        return self.routine(point, values) if part >= sources else events([(self.bits[part - bits][1], values)]) if part < alarms else None
+
+    def firsts(self):
+        """The numbers of the first component that is an event, of the first alarm, and of the first routine."""
+        bits = len(self.app.tasks)
+        return bits, bits + len(self.bits), bits + len(self.bits) + len(self.app.alarms)
+
+    def name(self, part):
+        """Whose a component is: a task's, an alarm's or a routine's name."""
+        bits, alarms, sources = self.firsts()
+        if part >= sources:
+            return self.app.sources[part - sources].name
+        return self.app.alarms[part - alarms].name if part >= alarms else self.app.tasks[part if part < bits else self.bits[part - bits][0]].name
+
+    def in_no_run(self, point, gone, only=None):
+        """Lines of the values that no run has at a point, of all components or of those of one name."""
+        bits, alarms, _ = self.firsts()
+        for part, laws in enumerate(gone):
+            name = self.name(part) + ("'s events" if bits <= part < alarms else '')
+            for law, values in laws.items() if only in (None, self.name(part)) else []:
+                yield 'in no run, by %s: %s: %s' % (law, name, self.part(point, part, values))
+
     def task(self, point, number, values):
         """What a task may be doing. Many points have the same values, so each is said once."""
         key = number, tuple(values), block_of(point) if executing_at(self.app, point) == number else None

@@ -1,5 +1,5 @@
-"""Small systems with several activations, shared priorities, INTERNAL resources and nested routines, for test_systems.py. What stands here of their
-forms, numbers and lines was given by an independent implementation, or (some whole lines) worked out by hand, and never by this one."""
+"""Small systems with several activations, shared priorities, INTERNAL resources and nested routines, for test_systems.py. None of
+the forms, numbers and lines that stand here was taken from this model; some whole lines were worked out by hand."""
 from collections import namedtuple
 
 System = namedtuple('System', 'oil code forms numbers runs')

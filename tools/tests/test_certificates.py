@@ -1,5 +1,5 @@
 """Tests of certificates: their bytes, their faults, what the model says of them, and how they are told; `tools/run_tests.py` runs
-them too. The bytes of the worked table and what is said of changed ones were given by an independent implementation."""
+them too. The bytes of the worked table and what is said of changed ones weren't taken from this model."""
 import contextlib
 import io
 import itertools

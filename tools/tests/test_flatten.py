@@ -6,7 +6,7 @@ import sys
 import tempfile
 import unittest
 
-from lib import explained
+from lib import explained, oil, rules
 from lib.application import application_of
 from lib.given import Wrong
 from lib.oil_tokens import Files
@@ -51,6 +51,39 @@ TRESOS = '''CPU tresos {
 
 TRESOS_CODE = 'TASK(Com10ms) { while (1) { WaitEvent(Frame); ClearEvent(Frame); GetResource(Buffer); ReleaseResource(Buffer); } } ISR(CanRx) { }'
 
+DRUID_PIC = '''CPU mySystem {
+  OS myOs { USERESSCHEDULER = FALSE; };
+  COUNTER myCounter { MAXALLOWEDVALUE = 100; };
+  COUNTER sys { MINCYCLE = 1; MAXALLOWEDVALUE = 0xFFFF; TICKSPERBASE = 1; };
+  EVENT TimerEvent { MASK = AUTO; };
+  EVENT ButtonEvent { MASK = AUTO; };
+  RESOURCE mutex { RESOURCEPROPERTY = STANDARD; };
+  TASK Task1 { PRIORITY = 0x01; SCHEDULE = FULL; AUTOSTART = FALSE; ACTIVATION = 6; };
+  TASK Task2 { PRIORITY = 0x02; SCHEDULE = FULL; EVENT = TimerEvent; EVENT = ButtonEvent; RESOURCE = mutex; };
+  ISR button { CATEGORY = 2; PRIORITY = 3; };
+  ALARM AlarmTask1 { COUNTER = sys; ACTION = ACTIVATETASK { TASK = Task1; }; };
+};'''
+
+GOIL_MODES = '''CPU events {
+  OS config { PRETASKHOOK = FALSE; STATUS = EXTENDED; USERESSCHEDULER = FALSE; };
+  APPMODE std;
+  APPMODE diag;
+  COUNTER SystemTimer { MAXALLOWEDVALUE = 65535; MINCYCLE = 2; };
+  EVENT tick { MASK = AUTO; };
+  TASK first { PRIORITY = 8; AUTOSTART = TRUE { APPMODE = std; APPMODE = diag; }; SCHEDULE = FULL; EVENT = tick; };
+  TASK second { PRIORITY = 2; AUTOSTART = FALSE; SCHEDULE = NON; };
+  ISR stop { CATEGORY = 2; PRIORITY = 1; };
+  ALARM al { COUNTER = SystemTimer; ACTION = SETEVENT { TASK = first; EVENT = tick; };
+    AUTOSTART = TRUE { APPMODE = std; ALARMTIME = 100; CYCLETIME = 0; }; };
+};'''
+
+CORES = '''CPU cores {
+  OS OsOS;
+  APPMODE Normal;
+  APPMODE Update;
+  TASK Init { PRIORITY = 100; SCHEDULE = NON; AUTOSTART = TRUE { APPMODE = Normal; APPMODE = Update; }; };
+};'''
+
 HEAD = 'CPU c { OS os; '
 
 
@@ -68,9 +101,32 @@ def flat(*words, given=None):
 
 class Flatten(unittest.TestCase):
     def test_files_of_projects(self):
-        for words, due in ((['druid.oil'], DRUID), (['goil.oil'], GOIL), (['--arxml', 'tresos.arxml'], TRESOS)):
-            with self.subTest(words[-1]):
-                self.assertEqual(words_of(flat(*words)[0]), words_of(due))
+        corpus = {'druid.oil': DRUID, 'druid_pic.oil': DRUID_PIC, 'goil.oil': GOIL, 'goil_modes.oil': GOIL_MODES, 'tresos.arxml': TRESOS, 'cores.arxml': CORES}
+        self.assertEqual(set(corpus) | {'druid_board.oil'}, set(os.listdir(FOLDER)))
+        for name, due in corpus.items():
+            with self.subTest(name):
+                text = flat(*(['--arxml'] if name.endswith('.arxml') else []), name)[0]
+                self.assertEqual(words_of(text), words_of(due))
+                rules.judge_objects(oil.objects_of(text, name), name)
+
+    def test_defaults_of_an_implementation(self):
+        """An object has them where it says nothing, with the line of the definition; NO_DEFAULT is none, and AUTO is one of a mask alone."""
+        self.assertIn('    SCHEDULE = NON;  // from goil_modes.oil:12\n', flat('goil_modes.oil')[0])
+        given = 'IMPLEMENTATION i { TASK { UINT32 PRIORITY = 3; UINT32 ACTIVATION = AUTO; ENUM [NON { UINT32 X = 1; }, FULL] SCHEDULE[] = NON; }; };' + HEAD
+        self.assertEqual(words_of(flat(given=given + 'TASK T; TASK T { SCHEDULE = FULL; }; };')[0]),
+                         words_of('CPU c { OS os; TASK T { SCHEDULE = FULL; PRIORITY = 3; }; };'))
+
+    def test_names_between_quotation_marks(self):
+        given = HEAD + 'COUNTER C { MAXALLOWEDVALUE = 9; }; ALARM A { COUNTER = "C"; ACTION = ACTIVATETASK { TASK = "T"; }; }; TASK T { PRIORITY = "1"; }; };'
+        text, told, status = flat(given=given)
+        self.assertIn('ALARM A { COUNTER = C ; ACTION = ACTIVATETASK { TASK = T ; } ; } ;', ' '.join(words_of(text)))
+        self.assertEqual((told, status), (['standard input:1: warning: PRIORITY = "1" of TASK T is dropped: a text is no value here'], 1))
+
+    def test_arxml_tells_what_it_cannot_carry(self):
+        _, told, status = flat('--arxml', 'cores.arxml')
+        self.assertEqual((told, status), (['cores.arxml:11: warning: 2 cores: all tasks are taken to run on one, one at a time',
+                                           'cores.arxml:30: note: OsIoc Queue is dropped: there is no communication between applications',
+                                           'cores.arxml:31: note: SPINLOCK Lock is dropped: there is one core'], 1))
 
     def test_where_lines_come_from(self):
         text, _, _ = flat('druid.oil')

@@ -6,10 +6,11 @@ import re
 import tempfile
 import unittest
 import unittest.mock
+from collections import Counter
 
 import house
 import prove
-from lib import crates, lemmas
+from lib import crates, lemmas, pages
 from lib.given import Wrong, contents
 from tests import TOOLS
 
@@ -71,6 +72,28 @@ class Proving(unittest.TestCase):
                          '14:21, after 25 min: 2 of 3, 45 % of the work; at work: c (2 min, about 2 on a quiet machine)')
         self.assertEqual(prove.plan(40, 4, 1740, 0.3, 4), '40 crates, at most 4 at a time; about 30 minutes from nothing on a quiet machine')
         self.assertEqual(prove.plan(40, 4, 1740, 8, 4)[-41:], 'machine, and 88 beside what runs here now')
+
+    def test_what_the_gate_told_is_put_into_the_page(self):
+        minutes = {'low': Counter(proofs=2.0, seeds=0.5), 'high': Counter(proofs=1.0, tests=3.0, edits=0.25)}
+        sizes = {name: house.Sizes(1000, 2, 3, 4, 5, 6, 7, 8) for name in minutes}
+        with contextlib.redirect_stdout(io.StringIO()) as out:
+            house.printed(house.table(sizes, minutes, True))
+        text = out.getvalue() + '7.5 minutes of a processor, 0.8 of them of rt itself and of what ended unseen\n3.2 minutes in all, status %d; log\n'
+        told = house.read_told(text % 0, 'f')
+        self.assertEqual((sorted(told.minutes), told.unseen, told.whole, told.clock, told.status), (['high', 'low'], 0.8, 7.5, 3.2, 0))
+        self.assertEqual(told.minutes['high'], Counter(proofs=1.0, tests=3.0, seeds=0, edits=0.2))
+        page = house.told_in_page(told)
+        self.assertIn('| proofs | 3.0 |\n| tests and programs | 3.0 |\n', page)
+        self.assertTrue(page.endswith('By the clock it took 3 minutes. The dearest crates, with all of these parts:\n\n- `high`: 4.2\n- `low`: 2.5\n'))
+        self.assertRaises(Wrong, house.told_in_page, house.read_told(text % 1, 'f'))
+        self.assertRaises(Wrong, house.read_told, 'x', 'f')
+        self.assertEqual(pages.with_table(contents(os.path.join(crates.ROOT, 'docs', 'PERFORMANCE.md')), 'gate', 'x\n').count('-->\nx\n<!--'), 1)
+
+    def test_readme_says_how_long_the_first_hour_takes(self):
+        here = crates.Crates(crates.ROOT)
+        whole = prove.Order(here, here.libraries(['osekfit']) + ['osekfit']).whole(4) / 60
+        told = re.search(r'some (\d+) minutes on four quiet processors', contents(os.path.join(crates.ROOT, 'README.md')))
+        self.assertLess(abs(int(told.group(1)) - whole), 4)
 
     def proved_by(self, script, room):
         """What is told where this script stands for rt, and crates a, b above a, c, and a program p above all; and what the repository has then."""

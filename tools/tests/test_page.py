@@ -14,7 +14,7 @@ from lib.oil import DEFAULT_MODE
 from lib.reasons import Reasons
 from lib.run_columns import Run
 from tests import EXAMPLES, TOOLS
-from tests.browser import Browser, path
+from lib.browser import Browser, path
 
 NAMES = ['body', 'engine', 'first', 'gateway', 'inverter', 'lamp']
 
@@ -147,6 +147,13 @@ class Page(unittest.TestCase):
     def open(self, *words):
         self.browser.open(page_of(os.path.join(self.folder.name, 'page.html'), *words))
 
+    def long_events(self):
+        """A text of 20,000 events of the engine controller."""
+        events = os.path.join(self.folder.name, 'long.events')
+        with open(events, 'w') as out:
+            out.write('run 1\nrun 1\nirq Tooth\nrun 0\nrun 0\nrun 0\nrun 1\nrun 0\nrun 0\nrun 1\n' * 2000)
+        return events
+
     def compare(self, lines):
         """Steps through a run by the keyboard, and compares what is shown with the lines of the trace."""
         for number, line in enumerate(lines):
@@ -211,6 +218,13 @@ class Page(unittest.TestCase):
         self.browser.click(*place)
         self.assertEqual(self.browser.run('chosen'), 20)
 
+    def test_what_is_known_of_a_statement(self):
+        """GetResource at event 2 is free by the report; ReleaseResource at event 9 is a general site that notes E_OK."""
+        self.open(*texts_of('engine'))
+        for event, due in ((2, 'free: nobody holds it here in any run'), (9, '? general, known E_OK'), (3, '')):
+            self.browser.run('go(%d)' % event)
+            self.assertEqual(self.browser.run('[...document.querySelectorAll("#pane-event .what .pill")].map(one => one.textContent).join()'), due)
+
     def test_panes(self):
         self.open(*texts_of('engine'))
         self.browser.press('2')
@@ -248,17 +262,28 @@ class Page(unittest.TestCase):
             self.assertEqual(narrow.run('chosen'), 1)
 
     def test_print(self):
-        self.open(*texts_of('engine'))
-        self.browser.run('dispatchEvent(new Event("beforeprint"))')
-        self.assertGreater(len(self.browser.call('Page.printToPDF', landscape=True)['data']), 10000)
+        """Paper is light, has the whole run of an example, and leaves the screen as it was."""
+        with Browser(1400, 900, 'dark') as dark:
+            dark.open(page_of(os.path.join(self.folder.name, 'dark.html'), *texts_of('engine')))
+            dark.run('dispatchEvent(new Event("beforeprint"))')
+            pixel = 'document.querySelector(".band").getContext("2d").getImageData(2 * MARGIN + 20, 2 * HEAD + 2, 1, 1).data'
+            self.assertGreater(min(dark.run('[...%s]' % pixel)), 200)
+            self.assertEqual(dark.run('document.querySelectorAll(".band").length'), 1)
+            self.assertGreater(len(dark.call('Page.printToPDF', landscape=True)['data']), 10000)
+            dark.run('dispatchEvent(new Event("afterprint"))')
+            self.assertEqual(dark.run('[isDark(), document.querySelectorAll(".band").length]'), [True, 0])
+
+    def test_print_of_a_long_run(self):
+        """One band stands around the chosen event."""
+        self.open('--most', '0', *texts_of('engine')[:2], self.long_events())
+        for event in (0, 10000, 20000):
+            first, wide = self.browser.run('[paper.starts(%d), paper.events]' % event)
+            self.assertEqual(len(first), 1)
+            self.assertTrue(first[0] <= event < first[0] + wide <= 20001, event)
 
     def test_a_long_run_is_drawn_as_far_as_it_is_seen(self):
         """However long the run is, there are at most as many pieces as pixels in the rows, and stepping draws none of them anew."""
-        events = os.path.join(self.folder.name, 'long.events')
-        with open(events, 'w') as out:
-            out.write('run 1\nrun 1\nirq Tooth\nrun 0\nrun 0\nrun 0\nrun 1\nrun 0\nrun 0\nrun 1\n' * 2000)
-        oil, code, _ = texts_of('engine')
-        self.open('--most', '0', oil, code, events)
+        self.open('--most', '0', *texts_of('engine')[:2], self.long_events())
         most = self.browser.run('timeline.width * (run.rows.length + 4)')
         for key in ['0', '+', 'End', '+', 'Home']:
             self.browser.press(key)

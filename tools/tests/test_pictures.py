@@ -11,8 +11,8 @@ from xml.etree import ElementTree
 import graph
 import pictures
 import timeline
-from lib import graph_chart, graph_matrix, oil, show_reader, timeline_chart, trace_reader
-from lib.given import Wrong, contents
+from lib import graph_chart, graph_matrix, oil, png, show_reader, timeline_chart, trace_reader
+from lib.given import Wrong, contents, data
 from tests import EXAMPLES
 
 
@@ -29,6 +29,17 @@ def owners_of(name):
 class Tree(unittest.TestCase):
     def test_the_pictures_of_the_examples_are_what_the_tools_make(self):
         self.assertEqual([path for path, _ in pictures.differing()], [], 'tools/pictures.py makes them anew')
+
+    def test_the_pictures_of_pages_show_the_pages_of_today(self):
+        self.assertEqual([path for path, *_ in pictures.older_pages()], [], 'tools/pictures.py --pages makes them anew')
+        self.assertEqual(set(os.listdir(pictures.SHOWN)), set(pictures.PAGES))
+
+    def test_a_picture_says_what_it_was_made_of(self):
+        picture = data(os.path.join(pictures.SHOWN, 'page-engine.png'))
+        again = png.with_source(picture, 'something else')
+        self.assertIn('something else', [words.partition(b'\0')[2].decode() for kind, words in png.chunks(again) if kind == b'tEXt'])
+        self.assertEqual(len(list(png.chunks(again))), len(list(png.chunks(picture))) + 1)
+        self.assertRaises(Wrong, png.source_of, b'GIF89a')
 
     def test_each_picture_is_one_that_is_made(self):
         there = {os.path.join(name, file) for name in os.listdir(EXAMPLES) for file in os.listdir(os.path.join(EXAMPLES, name))}

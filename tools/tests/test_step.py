@@ -74,6 +74,19 @@ class Step(unittest.TestCase):
             '3 IdleControl Injection=S IdleControl=R+EngineData Diagnosis=S',
             '4 IdleControl Injection=S IdleControl=R+EngineData Diagnosis=S'])
 
+    def test_until_where_nothing_comes(self):
+        """In the example `first` the processor is idle behind the first run."""
+        said, _ = self.step('first', 'u halted\n', 2)
+        self.assertEqual(said.count('- T1=S'), 1)
+        self.assertIn('  halted does not come: the processor is idle, and a request is wanted\n', said)
+
+    def test_until_shows_the_last_of_many_runs(self):
+        said, _ = self.step('lamp', 'u Lamp=W\nu Lamp=S\n', 1)
+        lines = [line for line in said.splitlines() if line[0].isdigit()]
+        self.assertEqual([int(line.split(' ')[0]) for line in lines], [0, 1, 2, *range(1002 - 11, 1003)])
+        self.assertIn('  .. 988 runs\n', said)
+        self.assertIn('  Lamp=S did not come within 1000 runs\n', said)
+
     def test_wrong_lines(self):
         said, _ = self.step('engine', 'i Crank\nt Tooth\nr x\nu\nhelp\n', 1)
         self.assertEqual(said.count('nothing is called'), 2)
@@ -89,10 +102,10 @@ class Step(unittest.TestCase):
         with open(file, 'wb') as out:
             out.write(image(app, analysis.shown, analysis.noted))
         done = subprocess.run([sys.executable, os.path.join(TOOLS, 'step.py'), text_of('lamp', '.oil'), text_of('lamp', '.code'), file],
-                              input=b'r\nr\nr\nb\n', stdout=subprocess.PIPE, env=dict(os.environ, PATH=''))
+                              input=b'r\nr\nr\nb 2\nu Lamp=W\nb\n', stdout=subprocess.PIPE, env=dict(os.environ, PATH=''))
         said = done.stdout.decode()
-        self.assertIn('trap 2\n', said)
-        self.assertIn('  the image has trapped; b goes back\n', said)
+        self.assertEqual(said.count('trap 2\n'), 2)
+        self.assertEqual(said.count('  the image has trapped; b goes back\n'), 2)
 
     def test_another_image(self):
         app = application_of(contents(text_of('first', '.oil')), contents(text_of('first', '.code')))

@@ -193,7 +193,7 @@ class Regressions(unittest.TestCase):
 
     def test_applications_are_found(self):
         self.assertEqual([os.path.basename(f) for f in regress.applications(EXAMPLES)], ['body', 'engine', 'first', 'gateway', 'inverter', 'lamp'])
-        self.assertRaises(Wrong, regress.applications, TOOLS)
+        self.assertRaises(Wrong, regress.applications, os.path.join(TOOLS, 'lib'))
         self.assertRaises(Wrong, regress.applications, 'nowhere')
 
     def test_what_is_written_is_said(self):
@@ -211,8 +211,10 @@ class Regressions(unittest.TestCase):
 
 class Documents(unittest.TestCase):
     def test_blocks_of_commands_are_read(self):
-        text = 'x\n```console\n$ cd a\n$ b\nout\n```\n```\n$ no\n```\n'
-        self.assertEqual(check_documents.blocks_of(text), [[(3, 'cd a', []), (4, 'b', ['out'])]])
+        text = 'x\n```console\n$ cd a\n$ b\nout\n```\n```\n$ no\n```\n```console needs nowhere sh\n$ c\n```\n'
+        blocks = check_documents.blocks_of(text)
+        self.assertEqual(blocks, [([], [(3, 'cd a', []), (4, 'b', ['out'])]), (['nowhere', 'sh'], [(11, 'c', [])])])
+        self.assertEqual([check_documents.missing(block) for block in blocks], [[], ['nowhere']])
 
     def test_links_lead_somewhere(self):
         self.assertEqual(list(pages.broken_links(check_documents.ROOT)), [])
@@ -220,6 +222,7 @@ class Documents(unittest.TestCase):
 
     def test_pages_are_laid_out(self):
         self.assertEqual(list(pages.overlong_lines(check_documents.ROOT)), [])
+        self.assertLessEqual(contents(os.path.join(check_documents.ROOT, 'README.md')).count('\n'), 130)
         self.assertEqual(list(pages.older_versions(check_documents.ROOT)), [])
         self.assertEqual([pages.VERSION.findall(text) for text in ('of 2.6.0, and 2.7.0.', 'Python 3.8, 1.2.3.4, v1.2.3')], [['2.6.0', '2.7.0'], []])
         self.assertEqual(list(pages.lines_outside_code('a\n```\nb\n```\nc')), [(1, 'a'), (5, 'c')])
@@ -248,6 +251,20 @@ class Documents(unittest.TestCase):
                 self.assertIn('fn %s' % function if function else '', code[crate], service)
             for run in runs.split('; ') if runs != 'all' else []:
                 self.assertRegex(rows, r'(?m)^row %s$|"%s"' % (re.escape(run), re.escape(run)), service)
+
+    def test_each_clause_of_readme_is_said_by_definitions_and_laws_that_are_there(self):
+        root = check_documents.ROOT
+        claims = re.findall(r'(?m)^(\d+)\. ', contents(os.path.join(root, 'README.md')).partition('## What is proved')[2])
+        rows = list(causes.rows_of(contents(os.path.join(root, 'docs', 'CONFIDENCE.md')).partition('| of README |')[2].partition('\n\n')[0], 3))
+        self.assertEqual([row[0] for row in rows[1:]], claims)
+        specs = ''.join(contents(file) for file in house.files_of(os.path.join(root, 'crates'), '.antt') if '/specs/' in file and '/out/' not in file)
+        laws = ''.join(contents(file) for crate in ('commands', 'command_laws', 'kernel_guarantees')
+                       for file in house.files_of(os.path.join(root, 'crates', crate, 'src'), '.rt'))
+        for number, definitions, said in rows[1:]:
+            for name in re.findall(r'`(\w+)`', definitions):
+                self.assertRegex(specs, r'\b(abbrev pub|record|data) %s\b' % name, number)
+            for name in re.findall(r'`(\w+)`', said):
+                self.assertRegex(laws, r'(?m)^pub fn %s\(\)$' % name, number)
 
     def test_architecture_names_calls_that_are_there(self):
         page = contents(os.path.join(check_documents.ROOT, 'docs', 'ARCHITECTURE.md'))

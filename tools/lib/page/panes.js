@@ -43,10 +43,12 @@ const FORM_SIGNS = { never: '∅', stay: '=', direct: '→', general: '?' };
 
 // A site's form, with a sign of its own.
 function pill(block) {
-  if (!block.form) return block.isSite ? element('span', 'pill', 'form not known') : '';
+  if (!block.form) return block.isSite ? element('span', 'pill', 'form not known') : block.told.includes('free') ? element('span', 'pill', 'free: nobody holds it here in any run') : '';
   const word = block.form.split(' ')[0], known = block.known && block.known !== 'any' ? ', known ' + block.known : '';
   return element('span', 'pill ' + word, FORM_SIGNS[word] + ' ' + block.form + known);
 }
+
+const timesWords = times => (times === 1 ? 'once' : times + ' times');
 
 function placeOf(blocks, number) {
   const block = blocks[number];
@@ -160,7 +162,7 @@ class SitesPane {
     const { blocks } = this.run.page;
     return table(['block', 'line', 'statement', 'of', 'form, known status', 'done', 'edges taken'], numbers.map(number => {
       const block = blocks[number], times = this.times.get(number);
-      const done = times ? button(times.times + ' times', 'where it is done first', () => this.go(times.first)) : block.told.includes('dead') ? 'never: dead' : 'not done';
+      const done = times ? button(timesWords(times.times), 'where it is done first', () => this.go(times.first)) : block.told.includes('dead') ? 'never: dead' : 'not done';
       return ['b' + number, block.line ? String(block.line) : '', block.text, block.owner, pill(block), done, this.outcomes(number)];
     }));
   }
@@ -304,7 +306,7 @@ class GraphPane {
     const { points } = this.run.page.graph;
     this.cell.replaceChildren(element('h3', '', row + ' to ' + column + ': ' + this.share(edges)), table(['from', 'to', 'kind', 'taken'], edges.map(edge => {
       const seen = this.taken.get(this.key(edge));
-      const times = seen ? button(seen.times + ' times, first at ' + seen.first, 'shows the event', () => this.go(seen.first)) : this.recorded.has(this.key(edge)) ? 'by a record' : 'not taken';
+      const times = seen ? button(timesWords(seen.times) + (seen.times > 1 ? ', first at ' : ', at ') + seen.first, 'shows the event', () => this.go(seen.first)) : this.recorded.has(this.key(edge)) ? 'by a record' : 'not taken';
       return [this.pointWords(points[edge[0]]), this.pointWords(points[edge[1]]), edge[2] || 'flow', times];
     })));
     this.cell.scrollIntoView({ block: 'nearest' });

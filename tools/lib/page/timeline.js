@@ -3,7 +3,7 @@
 // its bar, and not by the colour alone.
 
 const HEAD = 24, NOTES = 18;
-const MOST = 48, DETAIL = 3, MANY = 16;
+const MOST = 48, DETAIL = 3, MANY = 16, HATCH = 5;
 
 class Timeline {
   constructor(run, parts, go) {
@@ -13,6 +13,7 @@ class Timeline {
     this.zoom = 0;
     this.event = 0;
     this.picture = document.createElement('canvas');
+    this.hatchings = new Map();
     this.row = run.rows.length > MANY ? 17 : 26;
     this.bar = run.rows.length > MANY ? 10 : 15;
     this.height = (run.rows.length + 1) * this.row + 2 * NOTES + 6;
@@ -145,6 +146,10 @@ class Timeline {
   // What is seen of the run, without the chosen event: a picture that is kept while the place and the zoom stay.
   drawRun() {
     this.pen = this.penOf(this.picture, this.height);
+    this.drawRows();
+  }
+
+  drawRows() {
     this.drawGround();
     this.run.rows.forEach((row, k) => this.drawRow(row, k * this.row));
     this.drawRest(this.run.rows.length * this.row);
@@ -231,24 +236,31 @@ class Timeline {
   }
 
   hatch(x, y, width, height, colour) {
-    const { pen } = this;
-    const left = Math.max(x, -4), right = Math.min(x + width, this.width + 4);
-    pen.save();
-    pen.beginPath();
-    pen.rect(left, y, right - left, height);
-    pen.clip();
-    pen.strokeStyle = colour;
-    pen.lineWidth = 1.4;
-    pen.beginPath();
-    for (let at = Math.floor((left - height) / 5) * 5; at < right; at += 5) {
-      pen.moveTo(at, y + height);
-      pen.lineTo(at + height, y);
+    this.box(x, y, width, height, this.hatching(colour));
+    this.pen.strokeStyle = colour;
+    this.pen.lineWidth = 1;
+    if (width > 2) this.pen.strokeRect(x + 0.5, y + 0.5, width - 1, height - 1);
+  }
+
+  // A pattern of slanting lines.
+  hatching(colour) {
+    const scale = window.devicePixelRatio || 1, key = colour + ' ' + scale;
+    if (!this.hatchings.has(key)) {
+      const tile = document.createElement('canvas'), pen = tile.getContext('2d');
+      tile.width = tile.height = Math.round(HATCH * scale);
+      pen.scale(tile.width / HATCH, tile.width / HATCH);
+      pen.strokeStyle = colour;
+      pen.lineWidth = 1.4;
+      for (let at = 0; at <= 2 * HATCH; at += HATCH) {
+        pen.moveTo(at - HATCH - 1, HATCH + 1);
+        pen.lineTo(at + 1, -1);
+      }
+      pen.stroke();
+      const made = this.pen.createPattern(tile, 'repeat');
+      made.setTransform(new DOMMatrix().scale(HATCH / tile.width));
+      this.hatchings.set(key, made);
     }
-    pen.stroke();
-    pen.restore();
-    pen.strokeStyle = colour;
-    pen.lineWidth = 1;
-    if (width > 2) pen.strokeRect(x + 0.5, y + 0.5, width - 1, height - 1);
+    return this.hatchings.get(key);
   }
 
   // The time from a request to the beginning of the routine.
@@ -265,26 +277,31 @@ class Timeline {
     this.pen.globalAlpha = 1;
   }
 
-  // Requests: a full triangle, and a hollow one where the request is lost.
+  // Requests: a full triangle, and a hollow one where the request is lost; a stroke where there is no room.
   drawRequests(row, y, colour) {
-    const { pen } = this, events = row.requests;
+    const events = row.requests;
     let last = -9;
     for (let k = indexOf(events, this.from); k < events.length && events[k].event < this.to; k++) {
       const x = (events[k].event + 0.5) * this.zoom - this.left;
       if (x - last < 2) continue;
       last = x;
-      const half = Math.min(4.5, Math.max(1.5, this.zoom / 2));
-      pen.beginPath();
-      pen.moveTo(x - half, y + 1);
-      pen.lineTo(x + half, y + 1);
-      pen.lineTo(x, y + 8);
-      pen.closePath();
-      pen.fillStyle = events[k].isLost ? this.colour.paper : colour;
-      pen.strokeStyle = colour;
-      pen.lineWidth = 1.2;
-      pen.fill();
-      pen.stroke();
+      if (this.zoom < DETAIL) this.box(x, y + 1, 1, 2, colour);
+      else this.drawRequest(x, y, colour, events[k].isLost);
     }
+  }
+
+  drawRequest(x, y, colour, isLost) {
+    const { pen } = this, half = Math.min(4.5, Math.max(1.5, this.zoom / 2));
+    pen.beginPath();
+    pen.moveTo(x - half, y + 1);
+    pen.lineTo(x + half, y + 1);
+    pen.lineTo(x, y + 8);
+    pen.closePath();
+    pen.fillStyle = isLost ? this.colour.paper : colour;
+    pen.strokeStyle = colour;
+    pen.lineWidth = 1.2;
+    pen.fill();
+    pen.stroke();
   }
 
   // Where the processor is idle, as a thin line, and halted, as a thick one.

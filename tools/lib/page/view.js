@@ -6,6 +6,7 @@ const run = new Run(page);
 const byId = id => document.getElementById(id);
 
 const timeline = new Timeline(run, { names: byId('names'), scroller: byId('scroller'), canvas: byId('canvas'), axis: byId('axis'), spacer: byId('spacer') }, go);
+const paper = new Paper(timeline, byId('paper'));
 
 const panes = {
   event: new EventPane(run, go), sites: new SitesPane(run, go), table: new TablePane(run), findings: new FindingsPane(run, showLine),
@@ -123,7 +124,8 @@ function begin() {
   byId('search').addEventListener('keydown', e => { if (e.key === 'Enter') search(e.shiftKey ? -1 : 1); });
   byId('theme').addEventListener('click', () => light(isDark() ? 'light' : 'dark'));
   matchMedia('(prefers-color-scheme: dark)').addEventListener('change', () => timeline.ask());
-  addEventListener('beforeprint', () => { NAMES.forEach(name => panes[name].show(byId('pane-' + name), chosen)); timeline.draw(); });
+  addEventListener('beforeprint', () => { NAMES.forEach(name => panes[name].show(byId('pane-' + name), chosen)); paper.begin(chosen); });
+  addEventListener('afterprint', () => paper.end());
   addEventListener('hashchange', () => go(Number(location.hash.slice(1)) || 0));
   timeline.resize();
   go(Number(location.hash.slice(1)) || 0);

@@ -1,4 +1,4 @@
-"""A browser without a window, driven over the DevTools protocol by two pipes: for the tests of pages, which are skipped where there is none."""
+"""A browser without a window, driven over the DevTools protocol by two pipes: for pictures of pages, and for their tests."""
 import base64
 import json
 import os
@@ -30,7 +30,8 @@ class Browser:
                                         stderr=subprocess.DEVNULL)
         os.close(down[0])
         os.close(up[1])
-        self.to, self.back, self.number, self.session = os.fdopen(down[1], 'wb', 0), os.fdopen(up[0], 'rb'), 0, None
+        self.to, self.back, self.rest = os.fdopen(down[1], 'wb', 0), os.fdopen(up[0], 'rb', 0), b''
+        self.number, self.session = 0, None
         target = self.call('Target.createTarget', url='about:blank')['targetId']
         self.session = self.call('Target.attachToTarget', targetId=target, flatten=True)['sessionId']
         self.call('Page.enable')
@@ -74,13 +75,14 @@ class Browser:
                 return found.get('result', found.get('params'))
 
     def message(self):
-        found = b''
-        while not found.endswith(b'\0'):
-            byte = self.back.read(1)
-            if not byte:
+        """The next message, without the byte 0 that ends it."""
+        pieces = [self.rest]
+        while b'\0' not in pieces[-1]:
+            pieces.append(os.read(self.back.fileno(), 1 << 16))
+            if not pieces[-1]:
                 raise AssertionError('the browser has ended')
-            found += byte
-        return found[:-1]
+        found, _, self.rest = b''.join(pieces).partition(b'\0')
+        return found
 
     def open(self, file):
         self.call('Page.navigate', url='file://' + os.path.abspath(file))
