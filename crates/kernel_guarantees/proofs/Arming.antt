@@ -4,12 +4,12 @@ use Rattle.std.proofs.lemmas.Bool.{and_parts, eqb-false, eqb-true, false≢true,
 use Rattle.std.specs.{Prelude.{slice_index_or}}
 use Rattle.osek_values.specs.declared.{numbers.{AlarmNo.{AlarmNo}}}
 use Rattle.osek_values.specs.declared.status.Status.TheVariants as status
-use Rattle.osek_standard.specs.declared.{app.App.{App}, block.Kind.{Kind}, state.{State.{State}, AlarmState.{AlarmState, TheVariants.{Idle, Armed}}}}
-use Rattle.osek_standard.specs.{Apps.{is_cycle, max_of, the_alarm, the_block, the_counter}, States.{alarm_state, here, with_alarm}, Services.{Answer, acted, due, expire, is_due_at, is_idle, rearmed, set_abs_alarm, set_rel_alarm, ticks_left, value_of}}
-use Rattle.osek_standard.specs.{Effects.{Effect, effect, effect_at}, Well.{IsActive, IsAlarmState, Well}, Dispatch.{instruction, outcome_of}}
+use Rattle.osek_standard.specs.declared.{app.App.{App}, state.{State.{State}, AlarmState.{AlarmState, TheVariants.{Idle, Armed}}}}
+use Rattle.osek_standard.specs.{Apps.{is_cycle, max_of, the_alarm, the_counter}, States.{alarm_state, with_alarm}, Services.{Answer, acted, due, expire, is_due_at, is_idle, rearmed, set_abs_alarm, set_rel_alarm, ticks_left, value_of}}
+use Rattle.osek_standard.specs.{Effects.{Effect, effect}, Well.{IsActive, IsAlarmState, Well}, Dispatch.{instruction, outcome_of}}
 use Rattle.osek_standard.specs.declared.block.Kind.TheVariants as kind
 use Rattle.kernel_guarantees.specs.{Alarms.{counter_of}, Events.{IsDue}, Scheduling.{kind_at}}
-use Rattle.kernel_guarantees.proofs.{AlarmRuns.{value_within}, ClockMoves.{SameClock, acted_same, after, same_after, settled_same}, CountsLeft.{left, set_after}, LockedSteps.{effect_is}, Serving.{either_by, rel_parts}, StackSteps.{or_cases}}
+use Rattle.kernel_guarantees.proofs.{AlarmRuns.{value_within}, ClockMoves.{SameClock, acted_same, after, same_after, settled_same}, CountsLeft.{left, set_after}, LockedSteps.{effect_of}, Serving.{either_by, rel_parts}, StackSteps.{or_cases}}
 use Rattle.kernel_guarantees.proofs.CallNames as call
 
 at_most : (n k : ℕ) → nat_le n k ≡ true → n ≤ k
@@ -52,9 +52,6 @@ module _ (app : App) (s : State) (w : Well app s) (active : IsActive s.processor
   status_after : (instruction app s choice).notes.status ≡ (effect app s choice).notes.status
   unfolding instruction
   status_after = refl
-
-  effect_of : (k : Kind) → kind_at app s ≡ k → effect app s choice ≡ effect_at app s choice (here s) (the_block app (here s).block.0) k
-  effect_of k is = effect_is app s choice active ∙ ap (λ (x : Kind). effect_at app s choice (here s) (the_block app (here s).block.0) x) is
 
   -- the alarm, and its counter as it stood
   abbrev Arms : AlarmState → State → Type 0
@@ -107,15 +104,15 @@ module _ (app : App) (s : State) (w : Well app s) (active : IsActive s.processor
   pub relative_arms : (i c : ℕ) → kind_at app s ≡ kind.Call (call.Arm call.SetRelAlarm a i c) → (instruction app s choice).notes.status ≡ Some status.Ok
       → (at : ℕ) × (alarm_state r a.0 ≡ Armed at c) × (ticks_left app r a.0 at ≡ i)
   relative_arms i c is ok =
-      let k = by_effect _ _ _ (effect_of (kind.Call (call.Arm call.SetRelAlarm a i c)) is) (relative_set i c) ok in
+      let k = by_effect _ _ _ (effect_of app s choice active (kind.Call (call.Arm call.SetRelAlarm a i c)) is) (relative_set i c) ok in
       ((value_of app s a.0 + i) % (max_of app a.0 + 1), k.0.0, ticks_as _ i k.0.1 (set_after (max_of app a.0) (value_of app s a.0) i (value_within app a.0 known s w) k.1.0 k.1.1))
 
   pub absolute_arms : (v c : ℕ) → kind_at app s ≡ kind.Call (call.Arm call.SetAbsAlarm a v c) → (instruction app s choice).notes.status ≡ Some status.Ok → alarm_state r a.0 ≡ Armed v c
-  absolute_arms v c is ok = (by_effect _ _ _ (effect_of (kind.Call (call.Arm call.SetAbsAlarm a v c)) is) (absolute_set v c) ok).0.0
+  absolute_arms v c is ok = (by_effect _ _ _ (effect_of app s choice active (kind.Call (call.Arm call.SetAbsAlarm a v c)) is) (absolute_set v c) ok).0.0
 
   module _ (at cycle : ℕ) (armed : alarm_state s a.0 ≡ Armed at cycle) (on : IsDue app s a.0) (is : kind_at app s ≡ kind.Expire a) where
     pub rearms : Arms (rearmed app a.0 (Armed at cycle)) r
-    rearms = carried _ (subst (λ (y : Effect). Arms (rearmed app a.0 (Armed at cycle)) y.state) (sym (effect_of (kind.Expire a) is)) (subst (λ (y : AlarmState). Arms (rearmed app a.0 y) (expire app m a.0).state) armed (expired_set on)))
+    rearms = carried _ (subst (λ (y : Effect). Arms (rearmed app a.0 (Armed at cycle)) y.state) (sym (effect_of app s choice active (kind.Expire a) is)) (subst (λ (y : AlarmState). Arms (rearmed app a.0 y) (expire app m a.0).state) armed (expired_set on)))
 
     pub single_ends : cycle ≡ 0 → alarm_state r a.0 ≡ Idle
     single_ends none = rearms.0 ∙ either_by (λ (y : AlarmState). y ≡ Idle) (nat_eq cycle 0) _ _ (λ _. refl) (λ other. absurd (eqb-false cycle 0 other none))

@@ -75,7 +75,7 @@ module _ (app : App) where
         (subst (λ (x : Bool). IsTurned app s (concluded app e o).state (post_due e.state e.ask o) x) (sym pre) (turns app s e.state e.ask (effect_asks app s w active choice)))
 
     pub step_turns : (s : State) → Well app s → (e : Event) → TurnsTo s (step app s e)
-    step_turns s w e = step_notes app s (TurnsTo s) (same_turned s s refl) (λ k. same_turned s _ refl) (λ k. same_turned s _ refl) (λ choice active. instruction_turns s w active choice) e
+    step_turns s w e = step_notes app s (TurnsTo s) (same_turned s s refl) (λ k. same_turned s _ refl) (λ k a. same_turned s _ refl) (λ choice active. instruction_turns s w active choice) e
 
     -- whether a task is within its hooks: exactly where one runs or is interrupted
     abbrev IsWithin : State → Bool → Type 0

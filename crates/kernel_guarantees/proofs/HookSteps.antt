@@ -16,17 +16,17 @@ use Rattle.kernel_guarantees.proofs.{HookBits.{concluded_runs, dispatch_runs_no,
 use Rattle.kernel_guarantees.proofs.CallNames as call
 
 -- a step notes nothing, or is an instruction
-module _ (app : App) (s : State) (R : Stepped → Type 0) (stays : R (silent s)) (latches : (k : ℕ) → R (silent (with_latch s k true))) (enters : (k : SourceNo) → R (silent (entered app s k)))
+module _ (app : App) (s : State) (R : Stepped → Type 0) (stays : R (silent s)) (latches : (k : ℕ) → R (silent (with_latch s k true))) (enters : (k : SourceNo) → arrival app s ≡ Some k → R (silent (entered app s k)))
     (instructs : (choice : Bool) → IsActive s.processor → R (instruction app s choice)) where
-  or_entered : (n : Stepped) (o : Option SourceNo) → R n → R (entered_or (λ m. m) app s n o)
-  or_entered n None h = h
-  or_entered n (Some j) h = enters j
+  or_entered : (n : Stepped) (o : Option SourceNo) → arrival app s ≡ o → R n → R (entered_or (λ m. m) app s n o)
+  or_entered n None is h = h
+  or_entered n (Some j) is h = enters j is
 
   run_notes : (choice : Bool) (p : Processor) → s.processor ≡ p → R (run_by (λ m. m) app s (instruction app s choice) p)
   run_notes choice processor.Halted e = stays
-  run_notes choice processor.Idle e = or_entered (silent s) (arrival app s) stays
-  run_notes choice (processor.Running t) e = or_entered (instruction app s choice) (arrival app s) (instructs choice (subst IsActive (sym e) tt))
-  run_notes choice (processor.Interrupted k over) e = or_entered (instruction app s choice) (arrival app s) (instructs choice (subst IsActive (sym e) tt))
+  run_notes choice processor.Idle e = or_entered (silent s) (arrival app s) refl stays
+  run_notes choice (processor.Running t) e = or_entered (instruction app s choice) (arrival app s) refl (instructs choice (subst IsActive (sym e) tt))
+  run_notes choice (processor.Interrupted k over) e = or_entered (instruction app s choice) (arrival app s) refl (instructs choice (subst IsActive (sym e) tt))
 
   pub step_notes : (e : Event) → R (step app s e)
   step_notes (Run choice) = run_notes choice s.processor refl
@@ -92,10 +92,10 @@ module _ (app : App) where
 
   module _ (s : State) where
     pub error_steps : (e : Event) → is_set_true app ErrorHook ≡ true → runs ErrorHook (step app s e).notes ≡ is_error (step app s e).notes.status
-    error_steps e t = step_notes app s (λ n. runs ErrorHook n.notes ≡ is_error n.notes.status) refl (λ k. refl) (λ k. refl) (λ choice active. error_runs s choice active t) e
+    error_steps e t = step_notes app s (λ n. runs ErrorHook n.notes ≡ is_error n.notes.status) refl (λ k. refl) (λ k a. refl) (λ choice active. error_runs s choice active t) e
 
     pub startup_steps : (e : Event) → is_set_true app StartupHook ≡ true → runs StartupHook (step app s e).notes ≡ false
-    startup_steps e t = step_notes app s (λ n. runs StartupHook n.notes ≡ false) refl (λ k. refl) (λ k. refl) (λ choice active. startup_runs s choice active t) e
+    startup_steps e t = step_notes app s (λ n. runs StartupHook n.notes ≡ false) refl (λ k. refl) (λ k a. refl) (λ choice active. startup_runs s choice active t) e
 
   -- who is current before and after a step, and whether PostTaskHook and PreTaskHook run
   pub record IsTurned (s r : State) (post pre : Bool) : Type 0 where

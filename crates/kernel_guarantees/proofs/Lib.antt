@@ -71,3 +71,12 @@ pub mod PlacesBefore
 pub mod Overtaking
 pub mod GivingWay
 pub mod Leaving
+pub mod StackServices
+pub mod StackCalls
+pub mod StackChanges
+pub mod StackBars
+pub mod EventDeeds
+pub mod ClockDeeds
+pub mod ServiceAnswers
+pub mod CallRefusals
+pub mod CallAcceptances

@@ -25,6 +25,10 @@ effect_is app s choice active = by s.processor active where
   by (processor.Running t) h = refl
   by (processor.Interrupted k over) h = refl
 
+-- so it is that of a kind which the block is of
+pub effect_of : (app : App) (s : State) (choice : Bool) → IsActive s.processor → (k : Kind) → kind_at app s ≡ k → effect app s choice ≡ effect_at app s choice (here s) (the_block app (here s).block.0) k
+effect_of app s choice active k is = effect_is app s choice active ∙ ap (λ (l : Kind). effect_at app s choice (here s) (the_block app (here s).block.0) l) is
+
 module _ (app : App) (s : State) where
   abbrev StaysWith : Effect → Type 0
   StaysWith e = (e.state.processor ≡ s.processor) × (e.ask ≡ ask.No)

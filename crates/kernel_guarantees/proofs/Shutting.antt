@@ -130,6 +130,6 @@ never_in false = refl
 
 pub shutdown_steps : (app : App) (s : State) → Well app s → (e : Event) → is_set_true app ShutdownHook ≡ true → runs ShutdownHook (step app s e).notes ≡ ends s (step app s e).state
 shutdown_steps app s w e t = step_notes app s (λ n. runs ShutdownHook n.notes ≡ ends s n.state)
-    (sym (never s.processor s.processor refl)) (λ k. sym (never s.processor s.processor refl)) (λ k. sym (never_in (not (is_halted s.processor))))
+    (sym (never s.processor s.processor refl)) (λ k. sym (never s.processor s.processor refl)) (λ k a. sym (never_in (not (is_halted s.processor))))
     (λ choice active. shutdown_runs app s choice active t ∙ sym (halted_is app s w active choice)
     ∙ ap (λ (b : Bool). not b && is_halted (instruction app s choice).state.processor) (sym (active_goes s.processor active))) e

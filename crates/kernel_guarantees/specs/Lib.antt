@@ -15,3 +15,4 @@ pub mod Guarantees
 pub mod Instructions
 pub mod Readiness
 pub mod Activations
+pub mod Holding

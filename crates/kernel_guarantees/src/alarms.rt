@@ -1,10 +1,11 @@
 //! Alarms (ISO 17356-3, alarms): by what they change, and when they expire.
-ghost use Rattle.std.specs.Prelude.{◌≡◌, ◌≢◌, ◌⊎◌, ℕ, ◌+◌, ◌<◌, Bool, true, Some, List, length, ◌==◌, if◌then◌else◌};
-ghost use Rattle.osek_values.specs.{declared.{event.Event.{Event}, numbers.AlarmNo.{AlarmNo}}, Numbers.{alarm_no}};
+ghost use Rattle.std.specs.Prelude.{◌≡◌, ◌≢◌, ◌⊎◌, ℕ, ◌+◌, ◌<◌, ◌≤◌, Bool, true, false, Some, List, length, ◌==◌, if◌then◌else◌};
+ghost use Rattle.osek_values.specs.{declared.{event.Event.{Event}, numbers.{AlarmNo.{AlarmNo}, SourceNo.{SourceNo}, TaskNo.{TaskNo}}}, Numbers.{alarm_no, mask}};
 ghost use Rattle.osek_values.specs.declared.status.Status.TheVariants as status;
-ghost use Rattle.osek_standard.specs.{Apps.{the_counter}, States.{alarm_state, counter_value}, Services.{ticks_left}, Dispatch.{instruction}, Kernel.{step}, Well.{IsActive}};
-ghost use Rattle.osek_standard.specs.declared.{app.App.{App}, call.ArmService.{ArmService}, state.{State.{State}, AlarmState.TheVariants.{Armed, Idle}}};
-ghost use Rattle.osek_standard.specs.declared.call.{Call.TheVariants.{Alarm, Arm}, AlarmService.TheVariants.{CancelAlarm}, ArmService.TheVariants.{SetAbsAlarm, SetRelAlarm}};
+ghost use Rattle.oil_system.specs.declared.objects.Action.TheVariants as action;
+ghost use Rattle.osek_standard.specs.{Apps.{is_counter, is_cycle, is_extended, max_of, the_alarm, the_counter}, States.{alarm_state, caller, counter_value, task_state}, TaskStates.{is_suspended}, Services.{is_full, ticks_left}, Dispatch.{instruction}, Kernel.{step}, Well.{IsActive}};
+ghost use Rattle.osek_standard.specs.declared.{app.App.{App}, call.ArmService.{ArmService}, state.{State.{State}, AlarmState.TheVariants.{Armed, Idle}, Caller.TheVariants.{Routine}}};
+ghost use Rattle.osek_standard.specs.declared.call.{Call.TheVariants.{Alarm, Arm}, AlarmService.TheVariants.{CancelAlarm, GetAlarm}, ArmService.TheVariants.{SetAbsAlarm, SetRelAlarm}};
 ghost use Rattle.osek_standard.specs.declared.block.Kind.TheVariants as kind;
 ghost use Rattle.kernel_guarantees.specs.{Alarms.{AlarmBecomes, IsCount, StaysAs, counter_of, counts, counts_in}, Events.{IsDue}, Reached.{IsReached, after}, Scheduling.{kind_at}};
 
@@ -44,4 +45,25 @@ pub fn alarms_expire_on_time()
 /// while it stays as it is, there is no count.
 pub fn a_due_alarm_expires_before_the_next_count()
     ensures { (app : App) (s : State) (e : Event) (events : List Event) (a at c : ℕ) → IsReached app s → a < length app.alarms → counts_in app s e (counter_of app a) ≡ true → IsDue app (step app s e).state a → StaysAs app (step app s e).state a (Armed at c) events → counts app (step app s e).state (counter_of app a) events ≡ 0 }
+{}
+
+/// CancelAlarm that is accepted, a count, and an alarm that is due do what they say.
+pub fn alarms_and_counters_do_what_they_say()
+    ensures cancels { (app : App) (s : State) (choice : Bool) (a : AlarmNo) → IsReached app s → a.0 < length app.alarms → IsActive s.processor → kind_at app s ≡ kind.Call (Alarm CancelAlarm a) → (instruction app s choice).notes.status ≡ Some status.Ok → alarm_state (instruction app s choice).state a.0 ≡ Idle }
+    // in the tick routine of counter k
+    ensures counts { (app : App) (s : State) (choice : Bool) (k : SourceNo) → IsReached app s → IsActive s.processor → caller s.processor ≡ Routine k → is_counter app k.0 ≡ true → kind_at app s ≡ kind.CountUp → counter_value (instruction app s choice).state k.0 ≡ (if counter_value s k.0 == (the_counter app k.0).max then 0 else counter_value s k.0 + 1) }
+    // the task takes the activation of a due alarm unless it is full, so that its activation counts as accepted
+    ensures activates { (app : App) (s : State) (choice : Bool) (a : AlarmNo) (t : TaskNo) → IsReached app s → IsActive s.processor → kind_at app s ≡ kind.Expire a → IsDue app s a.0 → (the_alarm app a.0).action ≡ action.ActivateTask t → is_full app s t.0 ≡ false → (instruction app s choice).notes.status ≡ Some status.Ok }
+    // and its SetEvent is accepted unless the task is suspended
+    ensures sets { (app : App) (s : State) (choice : Bool) (a : AlarmNo) (t : TaskNo) (m : ℕ) → IsReached app s → IsActive s.processor → kind_at app s ≡ kind.Expire a → IsDue app s a.0 → (the_alarm app a.0).action ≡ action.SetEvent t (mask m) → is_extended app t.0 ≡ true → is_suspended (task_state s t.0) ≡ false → (instruction app s choice).notes.status ≡ Some status.Ok }
+{}
+
+/// Services of alarms are accepted and refused as the standard says: only an idle alarm is set, and only an armed one is cancelled
+/// or asked for its time.
+pub fn alarm_services_are_refused_for_a_reason()
+    ensures relative { (app : App) (s : State) (choice : Bool) (a : AlarmNo) (i c : ℕ) → IsReached app s → IsActive s.processor → alarm_state s a.0 ≡ Idle → kind_at app s ≡ kind.Call (Arm SetRelAlarm a i c) → 0 < i → i ≤ max_of app a.0 → is_cycle app a.0 c ≡ true → (instruction app s choice).notes.status ≡ Some status.Ok }
+    ensures absolute { (app : App) (s : State) (choice : Bool) (a : AlarmNo) (v c : ℕ) → IsReached app s → IsActive s.processor → alarm_state s a.0 ≡ Idle → kind_at app s ≡ kind.Call (Arm SetAbsAlarm a v c) → v ≤ max_of app a.0 → is_cycle app a.0 c ≡ true → (instruction app s choice).notes.status ≡ Some status.Ok }
+    ensures armed { (app : App) (s : State) (choice : Bool) (a : AlarmNo) (at cycle n c : ℕ) → IsReached app s → IsActive s.processor → alarm_state s a.0 ≡ Armed at cycle → (kind_at app s ≡ kind.Call (Arm SetRelAlarm a n c)) ⊎ (kind_at app s ≡ kind.Call (Arm SetAbsAlarm a n c)) → (instruction app s choice).notes.status ≡ Some status.State }
+    ensures cancels { (app : App) (s : State) (choice : Bool) (a : AlarmNo) (at cycle : ℕ) → IsReached app s → IsActive s.processor → alarm_state s a.0 ≡ Armed at cycle → kind_at app s ≡ kind.Call (Alarm CancelAlarm a) → (instruction app s choice).notes.status ≡ Some status.Ok }
+    ensures idle { (app : App) (s : State) (choice : Bool) (a : AlarmNo) → IsReached app s → IsActive s.processor → alarm_state s a.0 ≡ Idle → (kind_at app s ≡ kind.Call (Alarm CancelAlarm a)) ⊎ (kind_at app s ≡ kind.Call (Alarm GetAlarm a)) → (instruction app s choice).notes.status ≡ Some status.NoFunc }
 {}

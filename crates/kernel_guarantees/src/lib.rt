@@ -16,3 +16,4 @@ pub mod scheduling;
 pub mod shutdown;
 pub mod start;
 pub mod tasks;
+pub mod values;

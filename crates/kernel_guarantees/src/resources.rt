@@ -1,12 +1,15 @@
 //! Resources (ISO 17356-3, resource management): who holds them, and who may have them.
-ghost use Rattle.std.specs.Prelude.{◌≡◌, ◌≢◌, ℕ, ◌<◌, ◌≤◌, Bool, true, false, Some, Option};
-ghost use Rattle.osek_values.specs.declared.numbers.{ResNo.{ResNo}, SourceNo.{SourceNo}, TaskNo.{TaskNo}};
+ghost use Rattle.std.specs.Prelude.{◌≡◌, ◌≢◌, ◌⊎◌, ℕ, ◌<◌, ◌≤◌, Bool, true, false, Some, Option, [], ◌∷◌, ◌++◌};
+ghost use Rattle.osek_values.specs.declared.{event.Event.{Event}, numbers.{ResNo.{ResNo}, SourceNo.{SourceNo}, TaskNo.{TaskNo}}};
 ghost use Rattle.osek_values.specs.declared.status.Status.TheVariants as status;
-ghost use Rattle.osek_standard.specs.{declared.{app.App.{App}, state.State.{State}}, TaskStates.{held, holds, is_inside}, States.{is_taken, task_of, task_state}};
-ghost use Rattle.osek_standard.specs.{Apps.{source_priority}, Arrivals.{arrival}, Levels.{interrupt_ceiling}, Effects.{effect}, Internal.{internal_of}, Priority.{base_priority, ceiling}};
+ghost use Rattle.osek_standard.specs.{declared.{app.App.{App}, state.State.{State}}, TaskStates.{held, holds, is_inside}, States.{caller, is_taken, task_of, task_state}};
+ghost use Rattle.osek_standard.specs.{Apps.{is_extended, source_priority}, Arrivals.{arrival}, Levels.{interrupt_ceiling}, Effects.{effect, is_error}, Internal.{internal_of}, Priority.{base_priority, ceiling}};
+ghost use Rattle.osek_standard.specs.{Dispatch.{instruction}, Kernel.{step}};
+ghost use Rattle.osek_standard.specs.declared.call.{Call.TheVariants.{Resource}, ResourceService.TheVariants.{GetResource, ReleaseResource}};
+ghost use Rattle.osek_standard.specs.declared.block.Kind.TheVariants as kind;
 ghost use Rattle.osek_standard.specs.declared.state.Processor.TheVariants as processor;
-ghost use Rattle.kernel_guarantees.specs.{Conditions.{HasGroups, HasTops}, Reached.{IsReached}, Underway.{is_current}};
-ghost use Rattle.kernel_guarantees.specs.Resources.{Holds, IsHeldOnce, IsRoutineTaking, IsTaking, Occupies, OfRoutine, OfTask};
+ghost use Rattle.kernel_guarantees.specs.{Conditions.{HasGroups, HasTops}, Instructions.{is_wait}, Reached.{IsReached}, Scheduling.{kind_at}, Underway.{is_current}};
+ghost use Rattle.kernel_guarantees.specs.{Holding.{IsCaller, StackBecomes, needs_none_held}, Resources.{Holder, Holds, IsHeldOnce, IsRoutineTaking, IsTaking, Occupies, OfRoutine, OfTask, stack_of}};
 
 /// Two tasks, two routines, or a task and a routine never hold one resource at a time.
 pub fn no_resource_is_held_twice()
@@ -44,4 +47,23 @@ pub fn routines_begin_above_resources()
     ensures of_routines { (app : App) (s : State) (k : SourceNo) (l r : ℕ) → IsReached app s → arrival app s ≡ Some k → Holds s (OfRoutine l) r → interrupt_ceiling app r ≤ source_priority app k.0 }
     ensures of_interrupted_task { (app : App) (s : State) (k : SourceNo) (c : TaskNo) (r : ℕ) → IsReached app s → arrival app s ≡ Some k → task_of s.processor ≡ Some c → Occupies app s c.0 r → interrupt_ceiling app r ≤ source_priority app k.0 }
     ensures of_tasks { (app : App) (s : State) (k : SourceNo) (u r : ℕ) → HasTops app → IsReached app s → arrival app s ≡ Some k → Occupies app s u r → interrupt_ceiling app r ≤ source_priority app k.0 }
+{}
+
+/// What a task or a routine holds changes only by its own GetResource and ReleaseResource that are accepted, last in, first out,
+/// or where it ends.
+pub fn stacks_change_by_their_holders_alone()
+    ensures changes { (app : App) (s : State) (e : Event) (x : Holder) → IsReached app s → (stack_of (step app s e).state x ≡ stack_of s x) ⊎ StackBecomes (caller s.processor) x (kind_at app s) (step app s e).notes.status (stack_of s x) (stack_of (step app s e).state x) }
+    // GetResource that is accepted does put the resource on top
+    ensures takes { (app : App) (s : State) (choice : Bool) (x : Holder) (r : ResNo) → IsReached app s → IsCaller s x → kind_at app s ≡ kind.Call (Resource GetResource r) → (instruction app s choice).notes.status ≡ Some status.Ok → stack_of (instruction app s choice).state x ≡ stack_of s x ++ r ∷ [] }
+    // and ReleaseResource does take it from there
+    ensures releases { (app : App) (s : State) (choice : Bool) (x : Holder) (r : ResNo) → IsReached app s → IsCaller s x → kind_at app s ≡ kind.Call (Resource ReleaseResource r) → (instruction app s choice).notes.status ≡ Some status.Ok → stack_of s x ≡ stack_of (instruction app s choice).state x ++ r ∷ [] }
+    // what is held is refused, to its holder as to any other
+    ensures refused { (app : App) (s : State) (choice : Bool) (x y : Holder) (r : ResNo) → IsReached app s → IsCaller s x → kind_at app s ≡ kind.Call (Resource GetResource r) → Holds s y r.0 → (instruction app s choice).notes.status ≡ Some status.Access }
+{}
+
+/// A task that holds a resource neither ends nor waits, nor gives way by Schedule.
+pub fn holders_neither_end_nor_wait()
+    // WaitEvent is refused before to a task that isn't extended
+    ensures refused { (app : App) (s : State) (choice : Bool) (c : TaskNo) (r : ℕ) → IsReached app s → s.processor ≡ processor.Running c → Holds s (OfTask c.0) r → needs_none_held (kind_at app s) ≡ true → (is_wait (kind_at app s) ≡ true → is_extended app c.0 ≡ true) → (instruction app s choice).notes.status ≡ Some status.Resource }
+    ensures accepted { (app : App) (s : State) (choice : Bool) (c : TaskNo) → IsReached app s → s.processor ≡ processor.Running c → needs_none_held (kind_at app s) ≡ true → is_error (instruction app s choice).notes.status ≡ false → held (task_state s c.0) ≡ [] }
 {}
