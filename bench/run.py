@@ -17,6 +17,7 @@ import shutil
 import subprocess
 import sys
 import tempfile
+import textwrap
 import time
 from collections import namedtuple
 
@@ -128,10 +129,11 @@ class Bench:
         version = given.contents(os.path.join(ROOT, 'VERSION')).strip()
         with open(self.program, 'rb') as file:
             checksum = hashlib.sha256(file.read()).hexdigest()
-        return ('osekfit %s (SHA-256 %s..), on %s: %d processors (%s, %s), %s.\nThe machine had a load of %.1f at the begin and %.1f at the end. '
-                '`md5sum` of 100 MB took %.2f s there.\n' % (
+        told = ('osekfit %s (SHA-256 %s..), on %s: %d processors (%s, %s), %s. The machine had a load of %.1f at the begin and %.1f at the end. '
+                '`md5sum` of 100 MB took %.2f s there.' % (
                     version, checksum[:16], time.strftime('%-d %B %Y'), os.cpu_count(), processor_name(), platform.machine(), system_name(),
                     load, os.getloadavg()[0], self.checksum()))
+        return textwrap.fill(told, COLUMNS) + '\n'
 
 
 def processor_name():
@@ -261,7 +263,10 @@ def by_worst(bench, words):
                told_seconds(shown), told_megabytes(shown)]
 
 
-WORST = ['stacks:1:5:1:8:60', 'stacks:1:7:1:8:60', 'stacks:1:6:60:8:30', 'stacks:14:6:1:8:40', 'activations:16:16:255', 'waits:400:400:32',
+COLUMNS = 110
+"""How wide a line of a page is at most."""
+
+WORST = ['stacks:1:5:1:8:60', 'stacks:1:7:1:8:60', 'stacks:1:5:60:8:30', 'stacks:14:6:1:8:40', 'activations:16:16:255', 'waits:400:400:32',
          'routine_waits:500:8:50', 'alarm_waits:900:16', 'routines:8:120']
 """What is measured of the families of make_worst.py."""
 
