@@ -8,12 +8,12 @@ use Rattle.numbered_sets.specs.declared.judged.JudgedTest.{JudgedTest}
 use Rattle.numbered_sets.specs.{Judging.{IsJudgedTest, AreJudgedTests, IsAskedAt}, Numbers.{Numbers, has_number, with_number, kept_numbers}, Passing.{IsSifted}, Pools.{IsExtended}}
 use Rattle.numbered_sets.proofs.{SiftLaws.{kept_by}}
 
-abbrev pub judged_test : Test → ℕ → Numbers → JudgedTest
-judged_test t k x = record { test = t; judged = k; passing = x }
+abbrev pub judged_test : Test → ℕ → Numbers → ℕ → JudgedTest
+judged_test t k x s = record { test = t; judged = k; passing = x; spent = s }
 
 module _ (vs : List PartValue) (x : JudgedTest) (next : x.judged < length vs) (h : IsJudgedTest vs x) where
   -- the next value passes
-  pub judged_taken : ((d : PartValue) → passes x.test (get_or vs x.judged d) ≡ true) → IsJudgedTest vs (judged_test x.test (x.judged + 1) (with_number x.passing x.judged))
+  pub judged_taken : ((d : PartValue) → passes x.test (get_or vs x.judged d) ≡ true) → IsJudgedTest vs (judged_test x.test (x.judged + 1) (with_number x.passing x.judged) x.spent)
   judged_taken passed = record {
     few = omega (arith, next);
     each = λ n d lt. elim (cases_eq n x.judged) [
@@ -37,7 +37,7 @@ module _ (vs : List PartValue) (x : JudgedTest) (next : x.judged < length vs) (h
       or_false false = refl
 
   -- it doesn't
-  pub judged_left : ((d : PartValue) → passes x.test (get_or vs x.judged d) ≡ false) → IsJudgedTest vs (judged_test x.test (x.judged + 1) x.passing)
+  pub judged_left : ((d : PartValue) → passes x.test (get_or vs x.judged d) ≡ false) → IsJudgedTest vs (judged_test x.test (x.judged + 1) x.passing x.spent)
   judged_left failed = record {
     few = omega (arith, next);
     each = λ n d lt. elim (cases_eq n x.judged) [
@@ -77,6 +77,10 @@ judged_put vs tests place y h k x m =
           subst (IsJudgedTest vs) (sym (get_or-set_same tests place y x (omega (arith, known, same))) ∙ at) k)
       | inr other ↦ h x (m.0, known, sym (get_or-set_other tests place m.0 y x other) ∙ m.2)
     ]
+
+-- what was spent says nothing of them
+pub judged_spent : (vs : List PartValue) (x : JudgedTest) (s : ℕ) → IsJudgedTest vs x → IsJudgedTest vs (judged_test x.test x.judged x.passing s)
+judged_spent vs x s h = record { few = h.few; each = h.each; past = h.past }
 
 -- the numbers of all values that pass
 pub asked_sifted : (vs : List PartValue) (t : Test) (tests : List JudgedTest) (place : ℕ) → AreJudgedTests vs tests → IsAskedAt vs t tests place →

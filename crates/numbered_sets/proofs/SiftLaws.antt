@@ -1,17 +1,17 @@
 -- Tests of values as numbers: what is left of a set, and that an entry's numbers have values.
-use Rattle.std.proofs.Common.{◌≡◌, ℕ, zero, suc, ◌/◌, ◌%◌, ◌^◌, ◌<◌, Bool, true, false, ◌||◌, ◌&&◌, not, List, [], ◌∷◌, length, get_or, set, refl, sym, ap, ap₂, subst, ◌∙◌, inl, inr, arith, IsTrue, get_or-set_same}
+use Rattle.std.proofs.Common.{◌≡◌, ℕ, zero, suc, ◌+◌, ◌/◌, ◌%◌, ◌^◌, ◌<◌, ◌≤◌, Bool, true, false, ◌||◌, ◌&&◌, not, List, [], ◌∷◌, length, get_or, set, refl, sym, ap, ap₂, subst, ◌∙◌, inl, inr, arith, IsTrue, get_or-set_same}
 use Rattle.std.specs.Prelude.{◌==◌}
-use Rattle.std.proofs.{Math.Nat.{pow-suc}, lemmas.{Bool.{cases_eq, and_parts}, List.{get_or_default}}}
+use Rattle.std.proofs.{Math.Nat.{pow-suc}, lemmas.{Bool.{cases_eq, cases_lt, and_parts, eq-eqb, ne_eqb}, List.{get_or_default}}}
 use Rattle.std.proofs.lemmas.Nat.Bits.{bit_at_lowest, bit_at-suc}
-use Rattle.bit_words.proofs.{KeptWords.{has_both}, OtherWords.{has_alone}}
+use Rattle.bit_words.proofs.{BitCounts.{has_either, has_one}, KeptWords.{has_both}, OtherWords.{has_alone}}
 use Rattle.osek_values.specs.Bits.{has_bit}
-use Rattle.abstract_state.specs.{declared.value.{PartValue.{PartValue, TheVariants.{OfAlarm}}}, ValueOrder.{same_part}, Tables.{is_member}}
+use Rattle.abstract_state.specs.{declared.value.{Domain.{Domain}, PartValue.{PartValue, TheVariants.{OfAlarm}}}, ValueOrder.{same_part}, Tables.{is_member}}
 use Rattle.abstract_state.proofs.OrderLaws.{part_right}
 use Rattle.flow_model.specs.{declared.test.Test.{Test}, Tests.{passes}}
-use Rattle.numbered_sets.specs.Passing.{IsSifted}
-use Rattle.numbered_sets.specs.{Numbers.{Numbers, has_number, kept_numbers, other_numbers}, NumberedEntries.{no_set}}
+use Rattle.numbered_sets.specs.Passing.{ArePassing, IsSifted}
+use Rattle.numbered_sets.specs.{Numbers.{Numbers, numbers, has_number, with_number, kept_numbers, other_numbers}, NumberedEntries.{no_set}}
 use Rattle.numbered_sets.specs.Views.{values_with, plain_set}
-use Rattle.numbered_sets.proofs.{PlainLaws.{has_value, member_of_plain, any_first, value_with_number}, ViewLaws.{below_power}}
+use Rattle.numbered_sets.proofs.{PlainLaws.{has_value, member_of_plain, any_first, value_with_number}, ViewLaws.{false_unless, below_power}, KnownNumbers.{no_bit_of_none}}
 
 -- ---- what is left of a set
 
@@ -60,6 +60,80 @@ left_by vs t x mask h = record {
       ∙ value_sifted vs (has_number x) (has_number (other_numbers x mask)) (passes t) v (λ n d lt. has_alone x.bits mask.bits n ∙ ap (λ (b : Bool). has_number x n && b) (h n d lt))
       ∙ ap (λ (b : Bool). b && passes t v) (sym (member_of_plain vs x v));
 }
+
+and_again : (a b : Bool) → (a && (a && b)) ≡ (a && b)
+and_again true b = refl
+and_again false b = refl
+
+pub passing_kept : (vs : List PartValue) (t : Test) (x mask : Numbers) → ArePassing vs t x mask → IsSifted vs t x (kept_numbers x mask)
+passing_kept vs t x mask h = record {
+  domain = refl;
+  fewer = λ n has. (and_parts (has_number x n) (has_number mask n) (sym (has_both x.bits mask.bits n) ∙ has)).0;
+  values = λ v.
+      member_of_plain vs (kept_numbers x mask) v
+      ∙ value_sifted vs (has_number x) (has_number (kept_numbers x mask)) (passes t) v
+      (λ n d lt. has_both x.bits mask.bits n ∙ ap (λ (b : Bool). has_number x n && b) (h.each n d lt) ∙ and_again (has_number x n) (passes t (get_or vs n d)))
+      ∙ ap (λ (b : Bool). b && passes t v) (sym (member_of_plain vs x v));
+}
+
+-- ---- the numbers of a set below one whose values pass
+
+pub record ArePassingBelow (vs : List PartValue) (t : Test) (x mask : Numbers) (k : ℕ) : Type 0 where
+  pub each : (n : ℕ) (d : PartValue) → n < k → n < length vs → has_number mask n ≡ (has_number x n && passes t (get_or vs n d))
+  pub past : (n : ℕ) → k ≤ n → has_number mask n ≡ false
+
+pub none_passing : (vs : List PartValue) (t : Test) (x : Numbers) (d : Domain) → ArePassingBelow vs t x (numbers d 0) 0
+none_passing vs t x d = record {
+  each = λ n e lt known. absurd (omega (arith, lt));
+  past = λ n le. false_unless (has_bit 0 n) ⊥ (no_bit_of_none n) (λ no. no);
+}
+
+-- the set has no number from there to a later one
+pub passing_on : (vs : List PartValue) (t : Test) (x mask : Numbers) (k j : ℕ) → k ≤ j → ((n : ℕ) → k ≤ n → n < j → has_number x n ≡ false) → ArePassingBelow vs t x mask k → ArePassingBelow vs t x mask j
+passing_on vs t x mask k j up none h = record {
+  each = λ n d lt known. elim (cases_lt n k) [
+    | inl below ↦ h.each n d below known
+    | inr from ↦ h.past n from ∙ ap (λ (b : Bool). b && passes t (get_or vs n d)) (sym (none n from lt))
+  ];
+  past = λ n le. h.past n (omega (arith, le, up));
+}
+
+module _ (vs : List PartValue) (t : Test) (x mask : Numbers) (k : ℕ) (there : IsTrue (has_number x k)) (h : ArePassingBelow vs t x mask k) where
+  pub passing_taken : ((d : PartValue) → k < length vs → passes t (get_or vs k d) ≡ true) → ArePassingBelow vs t x (with_number mask k) (k + 1)
+  passing_taken passed = record {
+    each = λ n d lt known. elim (cases_eq n k) [
+      | inl last ↦
+          has_either mask.bits (2 ^ k) n ∙ ap (λ (b : Bool). has_number mask n || b) (has_one k n ∙ eq-eqb n k last) ∙ or_true (has_number mask n)
+          ∙ sym (ap₂ (λ (a b : Bool). a && b) (ap (has_number x) last ∙ there) (ap (λ j. passes t (get_or vs j d)) last ∙ passed d (omega (arith, last, known))))
+      | inr other ↦
+          has_either mask.bits (2 ^ k) n ∙ ap (λ (b : Bool). has_number mask n || b) (has_one k n ∙ ne_eqb n k other) ∙ or_false (has_number mask n)
+          ∙ h.each n d (omega (arith, lt, other)) known
+    ];
+    past = λ n le.
+        has_either mask.bits (2 ^ k) n ∙ ap₂ (λ (a b : Bool). a || b) (h.past n (omega (arith, le))) (has_one k n ∙ ne_eqb n k (λ e. omega (arith, e, le)));
+  }
+    where
+      or_true : (b : Bool) → (b || true) ≡ true
+      or_true true = refl
+      or_true false = refl
+
+      or_false : (b : Bool) → (b || false) ≡ b
+      or_false true = refl
+      or_false false = refl
+
+  pub passing_left : ((d : PartValue) → k < length vs → passes t (get_or vs k d) ≡ false) → ArePassingBelow vs t x mask (k + 1)
+  passing_left failed = record {
+    each = λ n d lt known. elim (cases_eq n k) [
+      | inl last ↦
+          h.past n (omega (arith, last))
+          ∙ sym (ap₂ (λ (a b : Bool). a && b) (ap (has_number x) last ∙ there) (ap (λ j. passes t (get_or vs j d)) last ∙ failed d (omega (arith, last, known))))
+      | inr other ↦ h.each n d (omega (arith, lt, other)) known
+    ];
+    past = λ n le. h.past n (omega (arith, le));
+  }
+
+pub all_passing : (vs : List PartValue) (t : Test) (x mask : Numbers) (k : ℕ) → length vs ≤ k → ArePassingBelow vs t x mask k → ArePassing vs t x mask
+all_passing vs t x mask k whole h = record { each = λ n d lt. h.each n d (omega (arith, lt, whole)) lt }
 
 -- ---- sets that aren't empty
 

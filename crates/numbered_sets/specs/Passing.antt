@@ -16,6 +16,10 @@ pub record IsJudged (vs : List PartValue) (t : Test) (j : Judged) : Type 0 where
   pub known : j.number < length vs
   pub is : (v : PartValue) → IsNumberOf vs v j.number → j.passes ≡ passes t v
 
+-- The numbers of a set whose values pass.
+pub record ArePassing (vs : List PartValue) (t : Test) (x passing : Numbers) : Type 0 where
+  pub each : (n : ℕ) (none : PartValue) → n < length vs → has_number passing n ≡ (has_number x n && passes t (slice_index_or vs n none))
+
 -- The set has the number of this value, and no other.
 pub record IsNumberAlone (vs : List PartValue) (v : PartValue) (x : Numbers) : Type 0 where
   pub each : (n : ℕ) (none : PartValue) → n < length vs → has_number x n ≡ same_part (slice_index_or vs n none) v

@@ -1,6 +1,7 @@
-//! Tests that a component's values were asked, each asked of a value once.
+//! Tests that a component's values were asked, and what they said of them, where that pays.
 ghost use Rattle.std.specs.{Prelude.{◌≡◌}, Bool.{OnTrue}};
 
+use crate::numbered_entry::NumberedEntry;
 use crate::numbered_set::NumberedSet;
 use crate::passing::Judged;
 use crate::seen_values::SeenValues;
@@ -16,6 +17,8 @@ pub struct JudgedTest {
     /// How many values were asked.
     pub judged: usize,
     pub passing: NumberedSet,
+    /// How many more were asked of which nothing was kept.
+    pub spent: usize,
 }
 
 /// The tests that values of one domain were asked.
@@ -39,7 +42,13 @@ impl JudgedTest {
             test: test.copy(),
             judged: 0,
             passing: NumberedSet::new(alloc, domain),
+            spent: 0,
         }
+    }
+
+    // whether as many values were asked of which nothing was kept as are missing
+    fn is_worth_keeping(&self, values: usize) -> bool {
+        self.spent.saturating_add(self.judged) >= values
     }
 
     /// Asks the values that came in since the last time.
@@ -78,8 +87,9 @@ impl JudgedTest {
 }
 
 impl JudgedTests {
-    ghost use Rattle.std.specs.Prelude.{◌≡◌, ◌<◌, [], length, slice_index_or, IfOk, IfSome};
-    ghost use Rattle.numbered_sets.specs.{declared.judged.JudgedTest.{JudgedTest}, Judging.{AreJudgedTests, IsAskedAt, HasTestAt}};
+    ghost use Rattle.std.specs.Prelude.{List, ◌≡◌, ◌<◌, [], length, slice_index_or, slice_set, IfOk, IfSome, OnOk, OnErr};
+    ghost use Rattle.abstract_state.specs.declared.value.PartValue.{PartValue};
+    ghost use Rattle.numbered_sets.specs.{declared.judged.JudgedTest.{JudgedTest}, Judging.{AreJudgedTests, IsAskedAt, HasTestAt}, NumberedEntries.{numbers_at}, Passing.{IsSifted}};
 
     /// No test was asked yet.
     pub fn new(alloc: Global) -> JudgedTests
@@ -90,16 +100,54 @@ impl JudgedTests {
         }
     }
 
-    /// Asks a test of all values, and tells at which place it stands.
-    pub fn ask(&mut self, alloc: Global, seen: &SeenValues, test: &Test) -> Result<usize, Memory>
-        requires { AreJudgedTests seen.now.values self.old.tests }
+    /// Leaves out the numbers of a component's values that don't pass a test. The set's values alone are asked, until as
+    /// many were asked as are missing.
+    pub fn keep_passing(
+        &mut self,
+        alloc: Global,
+        seen: &SeenValues,
+        test: &Test,
+        component: usize,
+        entry: &mut NumberedEntry,
+    ) -> Result<(), Memory>
+        requires judged { AreJudgedTests seen.now.values self.old.tests }
+        requires given { component < length entry.old.sets }
         ensures judged { AreJudgedTests seen.now.values self.new.tests }
-        ensures asked { IfOk result (IsAskedAt seen.now.values test.now self.new.tests) }
+        ensures passing { OnOk result (IsSifted seen.now.values test.now (numbers_at entry.old component) (numbers_at entry.new component)) }
+        ensures others { OnOk result (entry.new.sets ≡ slice_set entry.old.sets component (numbers_at entry.new component)) }
+        ensures err { OnErr result (entry.new ≡ entry.old) }
     {
         let place = self.place_for(alloc, seen, test)?;
+        if self.tests.at(place).is_worth_keeping(seen.len()) {
+            self.renew(seen, test, place)?;
+            entry.keep(component, self.passing(place));
+            return Ok(());
+        }
+        let asked = seen.passing(alloc, test, component, entry)?;
+        self.spend(place, asked.count);
+        entry.keep(component, &asked.passing);
+        Ok(())
+    }
+
+    // asks the test at a place of the values that came in since the last time
+    fn renew(&mut self, seen: &SeenValues, test: &Test, place: usize) -> Result<(), Memory>
+        requires judged { AreJudgedTests seen.now.values self.old.tests }
+        requires place { HasTestAt test.now self.old.tests place }
+        ensures judged { AreJudgedTests seen.now.values self.new.tests }
+        ensures asked { OnOk result (IsAskedAt seen.now.values test.now self.new.tests place) }
+    {
         let judged = self.tests.at_mut(place);
         judged.renew(seen)?;
-        Ok(place)
+        Ok(())
+    }
+
+    // adds up how many values were asked the test at a place
+    fn spend(&mut self, place: usize, count: usize)
+        requires { place < length self.old.tests }
+        ensures judged { (values : List PartValue) → AreJudgedTests values self.old.tests → AreJudgedTests values self.new.tests }
+    {
+        let judged = self.tests.at_mut(place);
+        judged.spent = judged.spent.saturating_add(count);
     }
 
     // the place of a test, which comes in last where it is new
@@ -128,8 +176,8 @@ impl JudgedTests {
         None
     }
 
-    /// The numbers of the values that pass the test at a place.
-    pub fn passing(&self, place: usize) -> &NumberedSet
+    // the numbers of the values that pass the test at a place
+    fn passing(&self, place: usize) -> &NumberedSet
         requires { place < length self.now.tests }
         ensures { (none : JudgedTest) → (slice_index_or self.now.tests place none).passing ≡ result.now }
     {

@@ -117,11 +117,9 @@ impl SharedValues {
         match test {
             Test::Is(value) => self.seen.keep_value(alloc, value, component, entry),
             Test::IsNot(value) => self.seen.leave_value(alloc, value, component, entry),
-            _ => {
-                let place = self.judged.ask(alloc, &self.seen, test)?;
-                entry.keep(component, self.judged.passing(place));
-                Ok(())
-            }
+            _ => self
+                .judged
+                .keep_passing(alloc, &self.seen, test, component, entry),
         }
     }
 

@@ -15,9 +15,9 @@ returns-clause-judged c =
     (let same = c.judge-judged.ensures.number in record { known = subst (λ n. n < length vs) (sym same) c.requires.next; is = λ e. ap (λ n. get_or vs n e) same ∙ get_or_default vs x.judged e d c.requires.next }) in
     elim c.if-judged.branch [
       | then-judged+in_ok-put w ↦
-          subst (λ (y : JudgedTest). IsJudgedTest vs (judged_test y.test (x.judged + 1) y.passing)) (sym w.self-is)
-          (subst (λ (y : Numbers). IsJudgedTest vs (judged_test x.test (x.judged + 1) y)) (sym w.in_ok-put.ensures.set) (judged_taken vs x c.requires.next c.requires.judged (λ d. sym (its d) ∙ w.if-judged.true)))
+          subst (λ (y : JudgedTest). IsJudgedTest vs (judged_test y.test (x.judged + 1) y.passing y.spent)) (sym w.self-is)
+          (subst (λ (y : Numbers). IsJudgedTest vs (judged_test x.test (x.judged + 1) y x.spent)) (sym w.in_ok-put.ensures.set) (judged_taken vs x c.requires.next c.requires.judged (λ d. sym (its d) ∙ w.if-judged.true)))
       | else-judged w ↦
-          subst (λ (y : JudgedTest). IsJudgedTest vs (judged_test y.test (x.judged + 1) y.passing)) (sym w.self-is)
+          subst (λ (y : JudgedTest). IsJudgedTest vs (judged_test y.test (x.judged + 1) y.passing y.spent)) (sym w.self-is)
           (judged_left vs x c.requires.next c.requires.judged (λ d. sym (its d) ∙ w.if-judged.false))
     ]
