@@ -15,6 +15,8 @@ pub mod SlotLaws
 pub mod ColumnLaws
 pub mod UnmovedLaws
 pub mod LoadLaws
+pub mod LoadUpdateLaws
+pub mod UpdatedSlots
 pub mod CopiedEntries
 pub mod GrownPools
 pub mod CountedNumbers

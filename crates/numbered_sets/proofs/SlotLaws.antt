@@ -20,7 +20,7 @@ abbrev pair_in : Option (BlockNo × ℕ) → BlockNo × ℕ
 pair_in None = (block_no 0, 0)
 pair_in (Some p) = p
 
-of_task : (first : BlockNo) (count : ℕ) (takable : Mask) (activation : ℕ) (internal : Bool) (loads : List Load) (v : Val) (t : ℕ) → IsTaskSlotOf first.0 count loads v t → IsSlotOf (domain.Task first count activation internal takable) loads (OfTask v) t
+pub of_task : (first : BlockNo) (count : ℕ) (takable : Mask) (activation : ℕ) (internal : Bool) (loads : List Load) (v : Val) (t : ℕ) → IsTaskSlotOf first.0 count loads v t → IsSlotOf (domain.Task first count activation internal takable) loads (OfTask v) t
 of_task first count takable activation internal loads v t h = record {
   known = h.known;
   is = ap OfTask h.is;
@@ -31,7 +31,7 @@ of_task first count takable activation internal loads v t h = record {
     val_in_part (OfTask w) = w
     val_in_part other = Suspended
 
-of_source : (first : BlockNo) (count : ℕ) (takable : Mask) (loads : List Load) (v : SourceVal) (t : ℕ) → IsSourceSlotOf first.0 count loads v t → IsSlotOf (domain.Source first count takable) loads (OfSource v) t
+pub of_source : (first : BlockNo) (count : ℕ) (takable : Mask) (loads : List Load) (v : SourceVal) (t : ℕ) → IsSourceSlotOf first.0 count loads v t → IsSlotOf (domain.Source first count takable) loads (OfSource v) t
 of_source first count takable loads v t h = record {
   known = h.known;
   is = ap OfSource h.is;
@@ -84,7 +84,7 @@ module _ (slot : ℕ) (block : BlockNo) (loads : List Load) (found : Option ℕ)
 
 -- ---- slots by column and row
 
-as_many : (o : Option (BlockNo × ℕ)) (first : BlockNo) (count : ℕ) → o ≡ Some (first, count) → 0 < count → width_of o ≡ count
+pub as_many : (o : Option (BlockNo × ℕ)) (first : BlockNo) (count : ℕ) → o ≡ Some (first, count) → 0 < count → width_of o ≡ count
 as_many o first count is some = ap width_of is ∙ by_count count some
   where
     by_count : (n : ℕ) → 0 < n → width_of (Some (first, n)) ≡ n

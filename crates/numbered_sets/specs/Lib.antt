@@ -7,6 +7,7 @@ pub mod Pools
 pub mod Slots
 pub mod SeenSlots
 pub mod LoadKeys
+pub mod LoadUpdates
 pub mod SetLists
 pub mod Views
 pub mod PlainTables

@@ -7,6 +7,7 @@ mod counts;
 mod flat_sets;
 mod judged;
 pub mod laws;
+mod load_updates;
 mod loads;
 mod moving;
 mod numbered_entry;

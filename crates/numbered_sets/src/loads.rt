@@ -1,7 +1,10 @@
 //! What a task or a routine was seen to have beside its block, by number.
 ghost use Rattle.std.specs.Prelude.{◌≡◌};
 
+use crate::column::Column;
+use crate::load_updates::LoadUpdates;
 use abstract_state::{LiveVal, RoutineVal};
+use flow_model::Update;
 use indexmap::IndexSet;
 use osek_values::{BlockNo, Held, Memory};
 use std::alloc::{AllocError, Global};
@@ -102,23 +105,24 @@ impl Hash for Load {
     }
 }
 
-/// Different loads in the order of first use: each has its place as its number.
+/// Different loads in the order of first use: each has its place as its number. What updates made of them is kept beside them.
 #[derive(Drop)]
 pub struct Loads {
     seen: IndexSet<Load>,
+    updates: LoadUpdates,
 }
 
 const MOST: usize = 4294967296;
 
 impl Model for Loads {
     ghost use Rattle.std.specs.Prelude.{◌≤◌, ◌^◌, List, length};
-    ghost use Rattle.numbered_sets.specs.{declared.loads.Load.{Load}, Slots.{AreDistinct}};
+    ghost use Rattle.numbered_sets.specs.{declared.loads.Load.{Load}, Slots.{AreDistinct}, LoadUpdates.{AreLoadUpdates}};
 
     ghost Value = { List Load };
 
     ghost view = { λ s. s.seen.keys };
 
-    ghost invariant = { λ s. AreDistinct s.seen.keys × (length s.seen.keys ≤ 2 ^ 32) };
+    ghost invariant = { λ s. AreDistinct s.seen.keys × (length s.seen.keys ≤ 2 ^ 32) × AreLoadUpdates s.seen.keys s.updates.known };
 }
 
 impl Clone for Loads {
@@ -137,7 +141,7 @@ impl Clone for Loads {
 
 impl Loads {
     ghost use Rattle.std.specs.Prelude.{ℕ, List, ◌≡◌, ◌≢◌, ◌<◌, ◌≤◌, ◌^◌, [], length, slice_index_or, IfOk, OnOk, OnErr, IfSome, IfNone};
-    ghost use Rattle.numbered_sets.specs.Slots.{no_load, AreDistinct, IsLoadNumber, IsGrownBy};
+    ghost use Rattle.numbered_sets.specs.{Slots.{no_load, AreDistinct, IsLoadNumber, IsGrownBy}, LoadUpdates.{IsNumberAfter, AreNumbersAfter}};
 
     /// No load yet.
     pub fn new(alloc: Global) -> Loads
@@ -145,6 +149,7 @@ impl Loads {
     {
         Loads {
             seen: IndexSet::new(alloc),
+            updates: LoadUpdates::new(alloc),
         }
     }
 
@@ -193,5 +198,22 @@ impl Loads {
         let key = load.copy();
         let (number, _is_new) = self.seen.insert_full(key)?;
         Ok(number)
+    }
+
+    /// The numbers of what an update makes of loads, as far as they are known.
+    pub fn numbers_after(&self, update: &Update) -> Option<&Column>
+        ensures { IfSome result (λ numbers. AreNumbersAfter self.now update.now numbers.now) }
+    {
+        self.updates.numbers(update)
+    }
+
+    /// Keeps the number of what an update makes of a load.
+    pub fn note(&mut self, update: &Update, load: usize, after: usize) -> Result<(), Memory>
+        requires { IsNumberAfter self.old update.now load after }
+        ensures { self.new ≡ self.old }
+    {
+        let alloc = *self.seen.allocator();
+        self.updates.note(alloc, update, load, after)?;
+        Ok(())
     }
 }

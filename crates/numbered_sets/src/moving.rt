@@ -1,8 +1,13 @@
 //! What updates make of a component's values, by number.
-ghost use Rattle.std.specs.Prelude.{◌≡◌};
+ghost use Rattle.std.specs.Prelude.{◌≡◌, ◌<◌, length, IfSome};
+ghost use Rattle.numbered_sets.specs.LoadUpdates.{IsFoundWith};
 
+use crate::column::{Column, NONE};
 use crate::numbered_set::NumberedSet;
 use crate::seen_values::SeenValues;
+use crate::slot_values::{Standing, changes_load, offset_after, slot_place, standing_after};
+use crate::slots::Slots;
+use abstract_state::Domain;
 use flow_model::Update;
 use osek_values::{BlockNo, Memory};
 use std::alloc::Global;
@@ -85,12 +90,13 @@ impl SeenValues {
             AreMade (updated update.now) self.old.values old number made.old → AreMade (updated update.now) self.new.values old (number + 1) made.new) }
     {
         let after = self.number_after(number, update)?;
+        self.note_after(update, number, after)?;
         made.put(after)?;
         Ok(())
     }
 
     // Puts in the numbers of what an update makes of the values with a set's numbers from one on, as long as these are found by
-    // the block alone. It gives the number of the set that comes next, or how many values there are.
+    // block and load. It gives the number of the set that comes next, or how many values there are.
     fn pass_seen(
         &self,
         numbers: &NumberedSet,
@@ -112,7 +118,7 @@ impl SeenValues {
             | Update::More
             | Update::Again(_)
             | Update::Leave(_)
-            | Update::Inside => Ok(numbers.next(from, self.len())),
+            | Update::Inside => self.pass_loads(numbers, update, from, made),
         }
     }
 
@@ -144,4 +150,62 @@ impl SeenValues {
         }
         Ok(number)
     }
+
+    // the same for an update that makes other loads, as far as it is known which
+    fn pass_loads(
+        &self,
+        numbers: &NumberedSet,
+        update: &Update,
+        from: usize,
+        made: &mut NumberedSet,
+    ) -> Result<usize, Memory>
+        requires { from ≤ length self.now.values }
+        ensures up { IfOk result (λ n. from ≤ n) }
+        ensures few { IfOk result (λ n. n ≤ length self.now.values) }
+        ensures has { IfOk result (λ n. n < length self.now.values → IsTrue (has_number numbers.now n)) }
+        ensures made { IfOk result (λ n. AreMade (updated update.now) self.now.values numbers.now from made.old → AreMade (updated update.now) self.now.values numbers.now n made.new) }
+    {
+        let count = self.len();
+        let mut number = numbers.next(from, count);
+        if !changes_load(self.domain, update) {
+            return Ok(number);
+        }
+        let Some(standing) = standing_after(self.domain, update) else {
+            return Ok(number);
+        };
+        let Some(loads) = self.loads.numbers_after(update) else {
+            return Ok(number);
+        };
+        self.loads.are_distinct();
+        while number < count {
+            let Some(after) = found_with(self.domain, &self.slots, standing, loads, number) else {
+                return Ok(number);
+            };
+            made.put(after)?;
+            number = numbers.next(number + 1, count);
+        }
+        Ok(number)
+    }
+}
+
+// the number of what stands where a Live value is left, with the load that it gets, if it was seen
+fn found_with(
+    domain: Domain,
+    slots: &Slots,
+    standing: Standing,
+    loads: &Column,
+    number: usize,
+) -> Option<usize>
+    requires { number < length slots.now.used }
+    ensures { IfSome result (IsFoundWith domain slots.now loads.now standing number) }
+{
+    let place = slot_place(domain, slots.at(number))?;
+    if place.row == 0 {
+        return None;
+    }
+    let load = loads.at(place.row as usize - 1);
+    if load == NONE {
+        return None;
+    }
+    slots.find_behind(load as usize + 1, offset_after(standing, place))
 }

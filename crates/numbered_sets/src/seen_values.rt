@@ -3,8 +3,8 @@ ghost use Rattle.std.specs.Prelude.{◌≡◌};
 
 use crate::loads::Loads;
 use crate::slot_values::{
-    BlockColumn, block_column, block_in, slot_at_block, slot_for, slot_of, slot_place, slot_width,
-    value_at,
+    BlockColumn, block_column, block_in, changes_load, load_in, slot_after, slot_at_block,
+    slot_for, slot_of, slot_place, slot_width, value_at,
 };
 use crate::slots::Slots;
 use abstract_state::{Domain, PartValue};
@@ -17,9 +17,9 @@ use std::marker::Model;
 /// is told by its block and the number of its load, and tells them.
 #[derive(Drop)]
 pub struct SeenValues {
-    domain: Domain,
-    loads: Loads,
-    slots: Slots,
+    pub(crate) domain: Domain,
+    pub(crate) loads: Loads,
+    pub(crate) slots: Slots,
 }
 
 impl Model for SeenValues {
@@ -126,15 +126,33 @@ impl SeenValues {
         ensures number { IfOk result (λ n. (v : PartValue) → IsNumberOf self.old.values v number → IsNumberOf self.new.values (updated update.now v) n) }
         ensures err { OnErr result (self.new ≡ self.old) }
     {
-        if let Update::Block(block) = update {
-            let slot = self.slots.at(number);
-            if let Some(moved) = slot_at_block(self.domain, &self.loads, slot, *block) {
-                let number = self.slots.number(moved)?;
-                return Ok(number);
-            }
+        let slot = self.slots.at(number);
+        if let Some(moved) = slot_after(self.domain, &self.loads, slot, update) {
+            let number = self.slots.number(moved)?;
+            return Ok(number);
         }
         let value = update.of(&self.value(number));
         self.number(&value)
+    }
+
+    /// Keeps which load an update made of that of the value with a number.
+    pub fn note_after(&mut self, update: &Update, number: usize, after: usize) -> Result<(), Memory>
+        requires known { number < length self.old.values }
+        requires after { after < length self.old.values }
+        requires made { (v : PartValue) → IsNumberOf self.old.values v number → IsNumberOf self.old.values (updated update.now v) after }
+        ensures { self.new ≡ self.old }
+    {
+        if !changes_load(self.domain, update) {
+            return Ok(());
+        }
+        let Some(load) = load_in(self.domain, self.slots.at(number)) else {
+            return Ok(());
+        };
+        let Some(made) = load_in(self.domain, self.slots.at(after)) else {
+            return Ok(());
+        };
+        self.loads.note(update, load, made)?;
+        Ok(())
     }
 
     /// The column of a block's slots, if it is one of the task's.

@@ -5,9 +5,12 @@ ghost use Rattle.flow_model.specs.{declared.change.Update.TheVariants.{Block}, T
 ghost use Rattle.abstract_state.specs.declared.value.{Val.TheVariants.{Live}, SourceVal.TheVariants.{In}};
 ghost use Rattle.numbered_sets.specs.declared.loads.Load.{Load};
 ghost use Rattle.numbered_sets.specs.Slots.{val_in, value_in, source_in, blocks_of, IsTaskSlot, IsSourceSlot, IsSlot, IsSlotOf, IsTaskSlotOf, IsSourceSlotOf, IsSlotInRow, AreMoreLoads, slot_width, IsBlockColumn, IsSlotPlace};
+ghost use Rattle.numbered_sets.specs.LoadUpdates.{changes_load, named_block, offset_after, IsStandingAfter, IsLoadIn};
 
+use crate::column::NONE;
 use crate::loads::{Load, Loads};
 use abstract_state::{Domain, LiveVal, PartValue, RoutineVal, SourceVal, Val};
+use flow_model::Update;
 use osek_values::{BlockNo, Memory};
 
 /// Where the slots of a block stand: that of a waiting task in this column and row.
@@ -23,6 +26,14 @@ pub struct BlockColumn {
 pub struct SlotPlace {
     pub row: u32,
     pub offset: usize,
+}
+
+/// Where an update leaves what is Live: all at one block, told by the number of those of its task or its routine before it, or each
+/// at its own.
+#[derive(Clone, Copy)]
+pub enum Standing {
+    At(usize),
+    Own,
 }
 
 /// The value of a domain that has a slot.
@@ -176,6 +187,82 @@ pub fn slot_at_block(domain: Domain, loads: &Loads, slot: usize, block: BlockNo)
     slot_in_row(first, count, row, block)
 }
 
+/// Whether the load and the block of a Live task, or of a routine, tell what an update makes of it, with another load.
+pub fn changes_load(domain: Domain, update: &Update) -> bool
+    ensures { result ≡ changes_load domain update.now }
+{
+    match domain {
+        Domain::Task { .. } => !matches!(update, Update::Set(_) | Update::Block(_)),
+        Domain::Source { .. } => matches!(update, Update::Take { .. } | Update::Give { .. }),
+        Domain::Event | Domain::Alarm => false,
+    }
+}
+
+// the block at which an update leaves what is Live, if it names one
+fn named_block(update: &Update) -> Option<BlockNo>
+    ensures { result ≡ named_block update.now }
+{
+    match update {
+        Update::Block(block) | Update::Again(block) | Update::Leave(block) => Some(*block),
+        Update::Take { block, .. } | Update::Give { block } => Some(*block),
+        Update::Set(_) | Update::More | Update::Inside => None,
+    }
+}
+
+/// Where an update leaves what is Live, unless that is no block of the task or of the routine.
+pub fn standing_after(domain: Domain, update: &Update) -> Option<Standing>
+    ensures { IfSome result (IsStandingAfter domain update.now) }
+{
+    let (first, count) = blocks(domain)?;
+    match named_block(update) {
+        None => Some(Standing::Own),
+        Some(block) => {
+            if block.0 < first.0 || block.0 - first.0 >= count {
+                return None;
+            }
+            Some(Standing::At((block.0 - first.0) as usize))
+        }
+    }
+}
+
+/// The slot of what an update makes of a Live task's or a routine's value, if it is known which load that has.
+pub fn slot_after(domain: Domain, loads: &Loads, slot: usize, update: &Update) -> Option<usize>
+    requires known { IsSlot domain loads.now slot }
+    requires small { slot < 2 ^ 32 }
+    ensures { IfSome result (IsSlotOf domain loads.now (updated update.now (value_in domain loads.now slot))) }
+{
+    if let Update::Block(block) = update {
+        return slot_at_block(domain, loads, slot, *block);
+    }
+    if !changes_load(domain, update) {
+        return None;
+    }
+    let standing = standing_after(domain, update)?;
+    let place = slot_place(domain, slot)?;
+    if place.row == 0 {
+        return None;
+    }
+    let numbers = loads.numbers_after(update)?;
+    let load = numbers.at(place.row as usize - 1);
+    if load == NONE {
+        return None;
+    }
+    loads.are_distinct();
+    let offset = offset_after(standing, place);
+    let width = slot_width(domain) as usize;
+    Some(1 + (load as usize + 1) * width + offset)
+}
+
+/// Which of the blocks it is at which what is Live in a slot is left.
+pub fn offset_after(standing: Standing, place: SlotPlace) -> usize
+    ensures { result ≡ offset_after standing place }
+{
+    match standing {
+        Standing::At(offset) => offset,
+        Standing::Own => place.offset,
+    }
+}
+
 /// How many slots of a domain stand side by side: one for each block of a task or of a routine.
 pub fn slot_width(domain: Domain) -> u32
     ensures is { result ≡ slot_width domain }
@@ -226,6 +313,18 @@ pub fn slot_place(domain: Domain, slot: usize) -> Option<SlotPlace>
         row: place / width,
         offset: (place % width) as usize,
     })
+}
+
+/// The number of the load of what is Live in a slot.
+pub fn load_in(domain: Domain, slot: usize) -> Option<usize>
+    requires { slot < 2 ^ 32 }
+    ensures { IfSome result (IsLoadIn domain slot) }
+{
+    let place = slot_place(domain, slot)?;
+    if place.row == 0 {
+        return None;
+    }
+    Some(place.row as usize - 1)
 }
 
 /// The block of a slot's value; 0 where it has none.

@@ -98,6 +98,22 @@ impl Slots {
         Some(number as usize)
     }
 
+    /// The number of the slot at an offset in a row behind the first slot, if it has one.
+    pub fn find_behind(&self, row: usize, offset: usize) -> Option<usize>
+        requires { row ≤ 2 ^ 32 }
+        ensures { IfSome result (IsPlaceOf self.now.used (1 + row * self.now.width + offset)) }
+    {
+        let width = self.width as usize;
+        if offset >= width {
+            return None;
+        }
+        // the last slot of a row stands in the first column, a row further
+        if offset + 1 == width {
+            return self.find_in(0, row + 1);
+        }
+        self.find_in(offset + 1, row)
+    }
+
     /// The number of a slot, which gets the next one where it has none.
     pub fn number(&mut self, slot: usize) -> Result<usize, Memory>
         ensures width { self.new.width ≡ self.old.width }

@@ -1,6 +1,6 @@
 use Rattle.std.proofs.Common.{◌<◌, ◌^◌, List, length, ap, subst, arith}
 use Rattle.numbered_sets.specs.{declared.loads.Load.{Load}, Slots.{AreDistinct, IsLoadNumber, IsGrownBy}}
-use Rattle.numbered_sets.proofs.LoadLaws.{distinct_loads, stored_load, loads_grown, few_grown}
+use Rattle.numbered_sets.proofs.{LoadLaws.{distinct_loads, stored_load, loads_grown, few_grown, more_by_one}, LoadUpdateLaws.{updates_longer}}
 use Rattle.numbered_sets.proofs.loads.Loads.number.Goals as goal
 
 distinct : (c : goal.In_ok-number) → AreDistinct c.insert_full.new.self.keys
@@ -14,7 +14,9 @@ grown c =
 pub invariant_of-self-2 : goal.invariant_of-self-2
 invariant_of-self-2 c =
     let few : length c.self.inside.seen.keys < 2 ^ 32 = omega (arith, c.if-len-ge-MOST.false, c.len.ensures, ap length c.self.view_is) in
-    (distinct c, few_grown c.self.inside.seen.keys c.insert_full.new.self.keys c.args.load.now few (grown c))
+    let keys = c.self.inside.seen.keys in
+    let after = c.insert_full.new.self.keys in
+    (distinct c, few_grown keys after c.args.load.now few (grown c), updates_longer keys after c.self.inside.updates.known (more_by_one keys after c.args.load.now (grown c)) c.self.invariant.2)
 
 pub returns-clause-loads : goal.returns-clause-loads
 returns-clause-loads c = subst (λ (loads : List Load). IsGrownBy c.args.load.now loads c.insert_full.new.self.keys) c.self.view_is (grown c)

@@ -1,8 +1,6 @@
-use Rattle.std.proofs.{Common.{◌≡◌, List, refl, sym, ap, ap₂, subst, ◌∙◌}, lemmas.Result.{on_ok_weaker, IfOk-weaker}}
+use Rattle.std.proofs.{Common.{◌≡◌, List, refl, sym, ap, subst, ◌∙◌}, lemmas.Result.{on_ok_weaker, IfOk-weaker}}
 use Rattle.abstract_state.specs.{declared.value.{PartValue.{PartValue}}, Domains.{IsWithin}}
 use Rattle.flow_model.specs.Tests.{updated}
-use Rattle.flow_model.specs.declared.change.Update.{Update}
-use Rattle.flow_model.specs.declared.change.Update.TheVariants as update
 use Rattle.numbered_sets.specs.{Pools.{Values, value_seen, IsNumberOf}, Slots.{value_in, slot_values}}
 use Rattle.numbered_sets.proofs.SlotLaws.{value_numbered, given_values, given_seen, given_number, same_loads}
 use Rattle.numbered_sets.proofs.seen_values.SeenValues.number_after.Goals as goal
@@ -12,7 +10,7 @@ abbrev value_of : goal.In_ok-number → PartValue
 value_of c = value_in c.self.inside.domain c.self.inside.loads c.at-slot.result
 
 abbrev moved_of : goal.In_ok-number → PartValue
-moved_of c = updated (update.Block c.in-Block.block) (value_of c)
+moved_of c = updated c.args.update.now (value_of c)
 
 numbered_so : (c : goal.In_ok-number) → IsNumberOf c.args.self.now.values (value_of c) c.args.number
 numbered_so c =
@@ -21,14 +19,13 @@ numbered_so c =
     (value_numbered here.domain here.loads here.slots.used c.at-slot.result c.args.number (value_of c) c.at-slot.ensures.slot refl)
 
 moved_is : (c : goal.In_ok-number) (v : PartValue) → IsNumberOf c.args.self.now.values v c.args.number → moved_of c ≡ updated c.args.update.now v
-moved_is c v number = ap₂ (λ (u : Update) (w : PartValue). updated u w) (sym c.in-Block.is) (sym ((numbered_so c).is v) ∙ number.is v)
+moved_is c v number = ap (updated c.args.update.now) (sym ((numbered_so c).is v) ∙ number.is v)
 
 pub invariant_of-self-in-Some : goal.invariant_of-self-in-Some
 invariant_of-self-in-Some c =
     let here = c.self.inside in
     let w = value_of c in
-    let within : IsWithin here.domain (moved_of c) = subst (λ (u : Update). IsWithin here.domain (updated u w)) c.in-Block.is
-    (subst (λ (x : Values). IsWithin x.domain (updated c.args.update.now w)) (sym c.self.view_is) (c.requires.within w (numbered_so c))) in
+    let within : IsWithin here.domain (moved_of c) = subst (λ (x : Values). IsWithin x.domain (moved_of c)) (sym c.self.view_is) (c.requires.within w (numbered_so c)) in
     given_seen here.domain here.loads here.loads here.slots c.number.new.self c.in-Some.moved c.in_ok-number.number (moved_of c) (same_loads here.loads) c.self.invariant c.in-Some.ensures c.in_ok-number.ensures.slots c.in_ok-number.ensures.number
     c.number.ensures.width within
 

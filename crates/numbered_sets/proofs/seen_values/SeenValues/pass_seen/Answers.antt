@@ -3,7 +3,6 @@ use Rattle.std.specs.Prelude.{IfOk}
 use Rattle.flow_model.specs.Tests.{updated}
 use Rattle.flow_model.specs.declared.change.Update.{Update}
 use Rattle.numbered_sets.specs.Made.{AreMade}
-use Rattle.numbered_sets.proofs.MadeLaws.{made_on}
 use Rattle.numbered_sets.proofs.seen_values.SeenValues.pass_seen.Goals as goal
 
 pub returns-in-Block-clause-made : goal.returns-in-Block-clause-made
@@ -11,7 +10,3 @@ returns-in-Block-clause-made c =
     let vs = c.args.self.now.values in
     let old = c.args.numbers.now in
     subst (λ (u : Update). IfOk c.pass_at.result (λ n. AreMade (updated u) vs old c.args.from c.args.made.now → AreMade (updated u) vs old n c.pass_at.new.made)) (sym c.in-Block.is) c.pass_at.ensures.made
-
-pub returns-in-Set-clause-made : goal.returns-in-Set-clause-made
-returns-in-Set-clause-made c =
-    made_on (updated c.args.update.now) c.args.self.now.values c.args.numbers.now c.args.made.now c.args.from c.next.result c.next.ensures.up c.next.ensures.none
