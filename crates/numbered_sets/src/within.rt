@@ -47,8 +47,8 @@ impl NumberedSets {
         true
     }
 
-    // whether a component's set is within the other's
-    fn is_set_within(&self, component: usize, other: &NumberedSets) -> bool
+    /// Whether each number of a component's set is one of the other's.
+    pub fn is_set_within(&self, component: usize, other: &NumberedSets) -> bool
         ensures { result ≡ ((other_numbers (set_of self.now component) (set_of other.now component)).bits == 0) }
     {
         let low = words::word_at(self.low.as_slice(), component);

@@ -1,11 +1,11 @@
 -- Lists of cells: their order, and what a join leaves of them.
-use Rattle.std.proofs.Common.{◌≡◌, ◌≢◌, ◌⊎◌, ℕ, ◌+◌, ◌-◌, ◌<◌, ◌≤◌, true, false, List, length, get_or, ltb, leb, set, refl, sym, ap, subst, ◌∙◌, inl, inr, arith, get_or-set_same, get_or-set_other}
+use Rattle.std.proofs.Common.{◌≡◌, ◌≢◌, ◌⊎◌, ℕ, ◌+◌, ◌-◌, ◌<◌, ◌≤◌, true, false, None, List, length, get_or, ltb, leb, set, refl, sym, ap, subst, ◌∙◌, inl, inr, arith, get_or-set_same, get_or-set_other}
 use Rattle.std.specs.{Prelude.{Contains}, List.{insert, Sorted.{IsPartitionedBy, IsPartitionPoint}}}
 use Rattle.std.proofs.lemmas.{Bool.{cases_eq, cases_lt, cases_order, lt-ltb, ltb-true, ltb-false, le-leb, leb-true, leb-false}, List.{length-set, get_or_default}}
 use Rattle.std.proofs.lemmas.List.{Elements.{Contains-get_or}, Edits.{length-insert, get_or-insert_below, get_or-insert_at, get_or-insert_above}, Sums.{sum_by-set, sum_by-insert}}
 use Rattle.osek_standard.specs.{declared.point.Point.{Point}, Points.{point_number}}
 use Rattle.state_flow.specs.declared.cells.Cell.{Cell}
-use Rattle.state_flow.specs.Cells.{cell_number, AreInOrder, IsPlaceOf, IsGapFor, IsBehind, IsWaitingAt, IsNextWaiting, waits, MayJoin, HasAbove, IsRaised, IsJoined}
+use Rattle.state_flow.specs.Cells.{cell_number, AreInOrder, IsPlaceOf, IsGapFor, IsBehind, IsWaitingAt, IsNextWaiting, WasEvaluatedWith, waits, MayJoin, HasAbove, IsRaised, IsJoined}
 
 -- what a list has after an edit
 module _ {X : Type 0} (xs : List X) (i : ℕ) (v : X) where
@@ -201,9 +201,11 @@ module _ {E : Type 0} (IsElement : E → Type 0) (AreAlike IsLower : E → E →
         let total = sum_by-set (λ (x : Cell E). rank x.entry) cells place cell cell at.known in
         record {
           order = order_set cells place cell order at.known (ap point_number (sym raised.point)) (raised.number ∙ order.told place cell at.known ∙ ap point_number (sym raised.point));
-          kept = λ x h none. elim (set_cases cells place cell x h) [
-            | inl e ↦ subst (Contains cells) (sym (e ∙ raised.same (ap (λ (y : Cell E). y.waiting) (sym e) ∙ none))) among
-            | inr stays ↦ stays
+          evaluated = λ x h z was. elim (set_cases cells place cell x h) [
+            | inl e ↦
+                (let before = raised.evaluated z (subst (λ (y : Cell E). WasEvaluatedWith y z) e was) in
+                record { cell = old; among = among; at = sym raised.point ∙ ap (λ (y : Cell E). y.point) (sym e); evaluated = before })
+            | inr stays ↦ record { cell = x; among = stays; at = refl; evaluated = was }
           ];
           grows = λ x h. elim (set_stays cells place cell x h) [
             | inl e ↦
@@ -222,8 +224,8 @@ module _ {E : Type 0} (IsElement : E → Type 0) (AreAlike IsLower : E → E →
         }
 
     -- A new cell was put in its gap.
-    pub joined_new : (gap : ℕ) (cell : Cell E) → cell.point ≡ point → cell.entry ≡ entry → cell.waiting ≡ true → cell.number ≡ point_number point → IsGapFor cells (point_number point) gap → IsJoined IsElement AreAlike IsLower rank cells point entry (insert cells gap cell)
-    joined_new gap cell here is waiting told at =
+    pub joined_new : (gap : ℕ) (cell : Cell E) → cell.point ≡ point → cell.entry ≡ entry → cell.waiting ≡ true → cell.before ≡ None → cell.number ≡ point_number point → IsGapFor cells (point_number point) gap → IsJoined IsElement AreAlike IsLower rank cells point entry (insert cells gap cell)
+    joined_new gap cell here is waiting unkept told at =
         let has = insert_has cells gap cell at.known in
         let long = length-insert cells gap cell at.known in
         let more = sum_by-insert waits cells gap cell in
@@ -231,9 +233,9 @@ module _ {E : Type 0} (IsElement : E → Type 0) (AreAlike IsLower : E → E →
         let one : waits cell ≡ 1 = rw waiting refl in
         record {
           order = order_insert cells gap cell order (told ∙ ap point_number (sym here)) (subst (λ (p : Point). IsGapFor cells (point_number p) gap) (sym here) at);
-          kept = λ x h none. elim (insert_cases cells gap cell at.known x h) [
-            | inl e ↦ absurd (let waits_now : x.waiting ≡ true = ap (λ (y : Cell E). y.waiting) e ∙ waiting in cc)
-            | inr stays ↦ stays
+          evaluated = λ x h z was. elim (insert_cases cells gap cell at.known x h) [
+            | inl e ↦ absurd (not_yet z (subst (λ (y : Cell E). WasEvaluatedWith y z) e was))
+            | inr stays ↦ record { cell = x; among = stays; at = refl; evaluated = was }
           ];
           grows = λ x h. record { cell = x; among = insert_stays cells gap cell at.known x h; at = refl; above = itself x.entry };
           joins = record { cell = cell; among = has; at = here; above = subst (λ (y : E). IsLower y cell.entry) is (itself cell.entry) };
@@ -244,3 +246,7 @@ module _ {E : Type 0} (IsElement : E → Type 0) (AreAlike IsLower : E → E →
           counts = omega (arith, more, total, long, one);
           sizes = omega (arith, more, long, one);
         }
+      where
+        not_yet : (z : E) → WasEvaluatedWith cell z → ⊥
+        not_yet z (inl kept) = absurd (cc)
+        not_yet z (inr own) = absurd (let waits_now : cell.waiting ≡ true = waiting in let idle = own.0 in cc)

@@ -1,6 +1,6 @@
--- What holds between two evaluations, and at the end: the cells that don't wait are closed.
-use Rattle.std.proofs.Common.{◌≡◌, ◌⊎◌, ℕ, suc, ◌+◌, ◌<◌, ◌≤◌, true, false, List, [], ◌∷◌, length, map, get_or, set, IsTrue, refl, sym, ap, subst, ◌∙◌, inl, inr, arith}
-use Rattle.std.specs.Prelude.{Contains}
+-- What holds between two evaluations, and at the end: what a point was evaluated with leads into the table.
+use Rattle.std.proofs.Common.{◌≡◌, ◌⊎◌, ℕ, suc, ◌+◌, ◌<◌, ◌≤◌, true, false, Option, None, List, [], ◌∷◌, length, map, get_or, set, IsTrue, refl, sym, ap, subst, ◌∙◌, inl, inr, arith}
+use Rattle.std.specs.{Prelude.{Contains}, Option.{ForSome}}
 use Rattle.std.proofs.lemmas.{Bool.{cases_lt}, List.{map-set, set-get_or, length-set, get_or_default, get_or-map, Sums.{sum_by-set, sum_by-cons, get_or-le-sum_by}}}
 use Rattle.osek_values.specs.declared.numbers.ModeNo.{ModeNo}
 use Rattle.osek_standard.specs.declared.{app.App.{App}, state.State.{State}, point.Point.{Point}}
@@ -13,11 +13,11 @@ use Rattle.abstract_state.specs.Regular.{IsRegular}
 use Rattle.abstract_state.proofs.{RegularLaws.{start_regular, step_regular}, ContainmentLaws.{in_larger}, AlikeLaws.{in_alike}, MarkLaws.{shown_silent}}
 use Rattle.flow_model.specs.Effects.{IsAt}
 use Rattle.numbered_sets.specs.PlainTables.{row_at}
-use Rattle.state_flow.specs.{declared.cells.Cell.{Cell}, Cells.{AreInOrder, IsWaitingAt, NoneWaitsFrom, cell_number, waits, waiting_count}}
+use Rattle.state_flow.specs.{declared.cells.Cell.{Cell}, Cells.{AreInOrder, IsWaitingAt, NoneWaitsFrom, WasEvaluatedWith, cell_number, waits, waiting_count}}
 use Rattle.point_exits.specs.Rows.{IsProperRow, IsRowIn}
 use Rattle.state_flow.specs.Rows.{row_of, sets_in}
 use Rattle.point_exits.specs.Starts.{IsStartRow}
-use Rattle.state_flow.specs.{Reaching.{IsLed, Leads}, Progress.{AreProperCells, IsClosed, values_in, AreJoined, Progress, AreStarted}}
+use Rattle.state_flow.specs.{Reaching.{IsLed}, Progress.{AreProperCells, LeadsInto, values_in, AreJoined, Progress, AreStarted}, Numbering.{AreEvaluated, AreRowsOfCell}}
 use Rattle.state_flow.proofs.{CellLists.{set_cases, order_set}, RowLaws.{entry_cell, cell_entry, cell_value, only_there}}
 
 silent_or : (m : Mark) → (m ≡ Silent) ⊎ (m ≡ Silent → ⊥)
@@ -39,7 +39,7 @@ module _ (app : App) where
 
   module _ (cells : List (Cell PlainEntry)) (cell : Cell PlainEntry) (order : AreInOrder cells) (among : Contains cells cell) where
     -- a state of the table at a cell's point is one of its entry
-    at_cell : (s : State) → In app (sets_in cells) s → point_of s ≡ cell.point → IsAt app cell.point cell.entry s
+    pub at_cell : (s : State) → In app (sets_in cells) s → point_of s ≡ cell.point → IsAt app cell.point cell.entry s
     at_cell s h at = record {
       well = h.well;
       regular = h.regular;
@@ -47,90 +47,100 @@ module _ (app : App) where
       within = λ c lt. only_there cells cell c (abstract_of app s c) order among (subst (λ (q : Point). IsTrue ((sets_in cells).has q c (abstract_of app s c))) at (h.within c lt));
     }
 
-    -- a cell is closed where the table has what its entry leads to
-    pub closed_by : (rows : List TableRow) → Leads app cell.point cell.entry rows → ((row : TableRow) → Contains rows row → IsRowIn (sets_in cells) row) → IsClosed app (sets_in cells) cell.point
-    closed_by rows leads has = record {
-      each = λ s e h at.
-          let next = (step app s e).state in
-          let w : Well app next = step_keeps app s e h.well in
-          elim (silent_or (shows app s e)) [
-            | inl silent ↦ in_alike app (sets_in cells) s next w (shown_silent app s e silent) h
-            | inr shown ↦ in_led (sets_in cells) rows next has w (step_regular app s e h.well h.regular) (leads.covers s e (at_cell s h at) shown)
-          ];
-    }
+  -- a state of a cell's entry is one of the table
+  in_cell : (cells : List (Cell PlainEntry)) (cell : Cell PlainEntry) → Contains cells cell → (s : State) → IsAt app cell.point cell.entry s → In app (sets_in cells) s
+  in_cell cells cell among s h = record {
+    well = h.well;
+    regular = h.regular;
+    entry = subst (λ (q : Point). IsTrue ((sets_in cells).entry q)) (sym h.point) (cell_entry cells cell among);
+    within = λ c lt. subst (λ (q : Point). IsTrue ((sets_in cells).has q c (abstract_of app s c))) (sym h.point) (cell_value cells cell c (abstract_of app s c) among (h.within c lt));
+  }
 
-    -- a cell that was closed and stays as it is, is closed
-    pub closed_still : (before : List (Cell PlainEntry)) → Contains before cell → IsContained (sets_in before) (sets_in cells) → IsClosed app (sets_in before) cell.point → IsClosed app (sets_in cells) cell.point
-    closed_still before there grows closed = record {
-      each = λ s e h at.
-          let inside = at_cell s h at in
-          let was : In app (sets_in before) s = record {
-            well = h.well;
-            regular = h.regular;
-            entry = subst (λ (q : Point). IsTrue ((sets_in before).entry q)) (sym at) (cell_entry before cell there);
-            within = λ c lt. subst (λ (q : Point). IsTrue ((sets_in before).has q c (abstract_of app s c))) (sym at) (cell_value before cell c (abstract_of app s c) there (inside.within c lt));
-          } in
-          in_larger app (sets_in before) (sets_in cells) (step app s e).state grows (closed.each s e was at);
-    }
+-- the cell at a place, which doesn't wait any more, with what it keeps now
+abbrev pub evaluated : Cell PlainEntry → Option PlainEntry → Cell PlainEntry
+evaluated cell kept = record cell { waiting = false; before = kept }
 
--- the cell at a place, which doesn't wait any more
-abbrev pub evaluated : Cell PlainEntry → Cell PlainEntry
-evaluated cell = record cell { waiting = false }
-
-module _ (cells : List (Cell PlainEntry)) (place : ℕ) (cell : Cell PlainEntry) (known : place < length cells) (is : get_or cells place cell ≡ cell) where
+module _ (cells : List (Cell PlainEntry)) (place : ℕ) (cell : Cell PlainEntry) (known : place < length cells) (is : get_or cells place cell ≡ cell) (kept : Option PlainEntry) where
   -- it stands for the same row
-  pub same_rows : map row_of (set cells place (evaluated cell)) ≡ map row_of cells
+  pub same_rows : map row_of (set cells place (evaluated cell kept)) ≡ map row_of cells
   same_rows =
-      map-set row_of cells place (evaluated cell)
+      map-set row_of cells place (evaluated cell kept)
       ∙ ap (λ (row : TableRow). set (map row_of cells) place row) (ap row_of (sym is) ∙ sym (Rattle.std.proofs.lemmas.List.get_or-map row_of cells place cell (row_of cell) known))
       ∙ set-get_or (map row_of cells) place (row_of cell)
 
-  pub same_sets : sets_in (set cells place (evaluated cell)) ≡ sets_in cells
+  pub same_sets : sets_in (set cells place (evaluated cell kept)) ≡ sets_in cells
   same_sets = ap (λ (rows : List TableRow). sets_of (record { rows = rows })) same_rows
 
-  pub evaluated_proper : (app : App) → AreProperCells app cells → AreProperCells app (set cells place (evaluated cell))
+  pub evaluated_proper : (app : App) → AreProperCells app cells → AreProperCells app (set cells place (evaluated cell kept))
   evaluated_proper app proper_cells = record {
-    order = order_set cells place (evaluated cell) proper_cells.order known (ap cell_number (get_or_default cells place (evaluated cell) cell known ∙ is))
+    order = order_set cells place (evaluated cell kept) proper_cells.order known (ap cell_number (get_or_default cells place (evaluated cell kept) cell known ∙ is))
         (subst (λ (x : Cell PlainEntry). x.number ≡ cell_number x) is (proper_cells.order.told place cell known));
-    each = λ x h. elim (set_cases cells place (evaluated cell) x h) [
+    each = λ x h. elim (set_cases cells place (evaluated cell kept) x h) [
       | inl e ↦ subst (λ (y : Cell PlainEntry). IsProperRow app (row_of y)) (sym e) (proper_cells.each cell (place, known, is))
       | inr stays ↦ proper_cells.each x stays
     ];
   }
 
-  module _ (app : App) (rows : List TableRow) (after : List (Cell PlainEntry)) (waiting : cell.waiting ≡ true) (leads : Leads app cell.point cell.entry rows) (joined : AreJoined app (set cells place (evaluated cell)) rows after) where
+  module _ (app : App) (rows : List TableRow) (after : List (Cell PlainEntry)) (waiting : cell.waiting ≡ true) (as_is : ForSome kept (λ entry. entry ≡ cell.entry)) (for_cell : AreRowsOfCell app cell rows)
+      (done : AreEvaluated app rows (set cells place (evaluated cell kept)) after) where
     among : Contains cells cell
     among = (place, known, is)
 
     grown : IsContained (sets_in cells) (sets_in after)
-    grown = subst (λ (t : Sets). IsContained t (sets_in after)) same_sets joined.grows
+    grown = subst (λ (t : Sets). IsContained t (sets_in after)) same_sets done.joined.grows
 
-    closed_after : (n : ℕ) → Progress app cells n → (x : Cell PlainEntry) → Contains after x → x.waiting ≡ false → IsClosed app (sets_in after) x.point
-    closed_after n progress x h none = elim (set_cases cells place (evaluated cell) x (joined.kept x h none)) [
-      | inl e ↦
-          (let leads_here : Leads app x.point x.entry rows = subst (λ (y : Cell PlainEntry). Leads app y.point y.entry rows) (sym e) leads in
-          closed_by app after x joined.cells_proper.order h rows leads_here joined.joins)
-      | inr stays ↦ closed_still app after x joined.cells_proper.order h cells stays grown (progress.closed x stays none)
-    ]
+    larger : (p : Point) (entry : PlainEntry) → LeadsInto app (sets_in cells) p entry → LeadsInto app (sets_in after) p entry
+    larger p entry leads s e at = in_larger app (sets_in cells) (sets_in after) (step app s e).state grown (leads s e at)
+
+    -- what the cell was evaluated with before leads into the table, and so does what is new
+    leads_now : (n : ℕ) → Progress app cells n → LeadsInto app (sets_in after) cell.point cell.entry
+    leads_now n progress s e at =
+        let next = (step app s e).state in
+        let w : Well app next = step_keeps app s e at.well in
+        elim (silent_or (shows app s e)) [
+          | inl silent ↦ in_alike app (sets_in after) s next w (shown_silent app s e silent) (in_larger app (sets_in cells) (sets_in after) s grown (in_cell app cells cell among s at))
+          | inr shown ↦ elim (for_cell.all s at) [
+            | inl had ↦ larger cell.point had.entry (progress.closed cell among had.entry (inl had.is)) s e had.at
+            | inr new ↦ in_led app (sets_in after) done.ends next done.joined.joins w (step_regular app s e at.well at.regular) (done.covers new.row new.among s e new.at shown)
+          ]
+        ]
+
+    its_entry : (entry : PlainEntry) → WasEvaluatedWith (evaluated cell kept) entry → entry ≡ cell.entry
+    its_entry entry (inl is_kept) = as_is entry is_kept
+    its_entry entry (inr own) = sym own.1
+
+    closed_after : (n : ℕ) → Progress app cells n → (x : Cell PlainEntry) → Contains after x → (entry : PlainEntry) → WasEvaluatedWith x entry → LeadsInto app (sets_in after) x.point entry
+    closed_after n progress x h entry was =
+        let old = done.joined.evaluated x h entry was in
+        subst (λ (p : Point). LeadsInto app (sets_in after) p entry) old.at
+        (elim (set_cases cells place (evaluated cell kept) old.cell old.among) [
+          | inl e ↦
+              (let same : entry ≡ cell.entry = its_entry entry (subst (λ (y : Cell PlainEntry). WasEvaluatedWith y entry) e old.evaluated) in
+              subst (λ (y : Cell PlainEntry). LeadsInto app (sets_in after) y.point entry) (sym e) (subst (LeadsInto app (sets_in after) cell.point) (sym same) (leads_now n progress)))
+          | inr stays ↦ larger old.cell.point entry (progress.closed old.cell stays entry old.evaluated)
+        ])
 
     -- each inductive table that has the cell's entry has what it leads to
     least_after : (n : ℕ) → Progress app cells n → (other : Sets) → Inductive app other → IsContained (sets_in after) other
     least_after n progress other inductive =
         let old = progress.least other inductive in
-        let has : IsRowIn other (row_at cell.point cell.entry) = record {
-          entry = old.entry cell.point (cell_entry cells cell among);
-          has = λ c v m. old.has cell.point c v (cell_value cells cell c v among m);
+        let has : (row : TableRow) → Contains rows row → IsRowIn other (row_at row.point row.entry) = λ row m. record {
+          entry = subst (λ (p : Point). IsTrue (other.entry p)) (sym (for_cell.at row m)) (old.entry cell.point (cell_entry cells cell among));
+          has = λ c v h. subst (λ (p : Point). IsTrue (other.has p c v)) (sym (for_cell.at row m)) (old.has cell.point c v (cell_value cells cell c v among ((for_cell.below row m).each c v h)));
         } in
-        joined.least other (subst (λ (t : Sets). IsContained t other) (sym same_sets) old) (λ row h. (leads.each row h).least other inductive has)
+        done.joined.least other (subst (λ (t : Sets). IsContained t other) (sym same_sets) old) (λ row h.
+        let x = done.each row h in
+        x.reached.least other inductive (has x.from x.among))
 
-    -- One evaluation: the cell leads to rows, which were joined in.
+    -- One evaluation: what the cell's new states lead to was joined in.
     pub progress_made : (n : ℕ) → Progress app cells n → Progress app after (n + 1)
     progress_made n progress =
-        let fewer = sum_by-set waits cells place (evaluated cell) cell known in
-        let same = sum_by-set (λ (x : Cell PlainEntry). entry_values x.entry) cells place (evaluated cell) cell known in
+        let joined = done.joined in
+        let fewer = sum_by-set waits cells place (evaluated cell kept) cell known in
+        let same = sum_by-set (λ (x : Cell PlainEntry). entry_values x.entry) cells place (evaluated cell kept) cell known in
         let one : waits (get_or cells place cell) ≡ 1 = ap waits is ∙ (rw waiting refl) in
         let value : entry_values (get_or cells place cell).entry ≡ entry_values cell.entry = ap (λ (x : Cell PlainEntry). entry_values x.entry) is in
-        let long = length-set cells place (evaluated cell) in
+        let long = length-set cells place (evaluated cell kept) in
         record {
           cells_proper = joined.cells_proper;
           start = λ mode lt. in_larger app (sets_in cells) (sets_in after) (start app mode).state grown (progress.start mode lt);
@@ -159,7 +169,7 @@ module _ (app : App) where
               let modes : mode ≡ other = ap (λ (n : ℕ). record { 0 = n }) same in
               subst (λ (m : ModeNo). In app (sets_in after) (start app m).state) modes there)
         ];
-        waits = λ cell h none. so_far.waits cell (joined.kept cell h none) none;
+        fresh = λ cell h entry was. let old = joined.evaluated cell h entry was in so_far.fresh old.cell old.among entry old.evaluated;
         least = λ other inductive. joined.least other (so_far.least other inductive) (λ r h.
             subst (IsRowIn other) (ap (λ (n : ℕ). get_or (row ∷ []) n r) (only_place r h) ∙ h.2) (first.least other inductive));
         most = omega (arith, so_far.most, joined.counts);
@@ -173,7 +183,7 @@ module _ (app : App) where
   started_all k cells le so_far = record {
     cells_proper = so_far.cells_proper;
     start = λ mode lt. so_far.start mode (omega (arith, lt, le));
-    closed = λ cell h none. absurd (so_far.waits cell h none);
+    closed = λ cell h entry was. absurd (so_far.fresh cell h entry was);
     least = so_far.least;
     most = omega (arith, so_far.most);
     fewest = omega (arith, so_far.fewest);
@@ -194,7 +204,7 @@ least_at_end app cells n progress none = record {
     step = λ s e h.
         let x = entry_cell cells (point_of s) h.entry in
         let idle : x.cell.waiting ≡ false = ap (λ (y : Cell PlainEntry). y.waiting) (sym x.among.2) ∙ none x.among.0 x.cell (omega arith) x.among.1 in
-        (progress.closed x.cell x.among idle).each s e h (sym x.at);
+        progress.closed x.cell x.among x.cell.entry (inr (idle, refl)) s e (at_cell app cells x.cell progress.cells_proper.order x.among s h (sym x.at));
   };
   least = progress.least;
 }
@@ -205,7 +215,7 @@ counted_at_end app cells n progress none = (omega (arith, progress.most, none_wa
 -- while a cell waits, fewer evaluations were made than cells and values there are
 pub room_left : (app : App) (cells : List (Cell PlainEntry)) (n place : ℕ) → Progress app cells n → IsWaitingAt cells place → n < length cells + values_in cells
 room_left app cells n place progress at =
-    let d : Cell PlainEntry = record { point = point.Halted; number = 0; entry = record { sets = [] }; waiting = false } in
+    let d : Cell PlainEntry = record { point = point.Halted; number = 0; waiting = false; entry = record { sets = [] }; before = None } in
     let some = get_or-le-sum_by waits cells place d at.known in
     let one : waits (get_or cells place d) ≡ 1 = rw (at.waits d) refl in
     omega (arith, progress.most, some, one)

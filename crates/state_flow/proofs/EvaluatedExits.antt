@@ -1,23 +1,23 @@
 -- The exits of a proper row's point are what its steps lead to, and their rows are proper.
-use Rattle.std.proofs.Common.{◌≡◌, List, map, sym, ap, subst, ◌∙◌}
+use Rattle.std.proofs.Common.{◌≡◌, List, map, sym, ap, subst, ◌∙◌, arith}
 use Rattle.std.specs.Prelude.{Contains}
 use Rattle.std.proofs.lemmas.List.Elements.{All-from_get_or}
 use Rattle.osek_standard.specs.declared.{app.App.{App}, point.Point.{Point}}
 use Rattle.osek_standard.proofs.Members.{Among, among_contained, contained_among, map_among, flat_map_among}
 use Rattle.abstract_state.specs.{declared.table.{ValueSet.{ValueSet}, TableRow.{TableRow}}, Domains.{HasMasks, domains, domains_of}, ValueOrder.{IsAscending}}
 use Rattle.abstract_state.specs.Tables.{empty_set, AreAscending}
-use Rattle.numbered_sets.specs.{declared.numbered_entry.NumberedEntry.{NumberedEntry}, Numbers.{has_number}, NumberedEntries.{numbers_at, number_domains, AreFilled}}
+use Rattle.numbered_sets.specs.{declared.{numbered_entry.NumberedEntry.{NumberedEntry}, table.NumberedRow.{NumberedRow}}, Numbers.{has_number}, NumberedEntries.{numbers_at, number_domains, AreFilled}}
 use Rattle.numbered_sets.specs.{Pools.{Values, values_at, pool_domains, IsLonger}, Views.{values_with, plain_entry, AreNumbersOf}}
-use Rattle.numbered_sets.proofs.{PlainLaws.{ascending_in_order, plain_set_at}, ViewLaws.{same_domains}}
+use Rattle.numbered_sets.proofs.{PlainLaws.{ascending_in_order, plain_set_at}, ViewLaws.{same_domains}, KnownNumbers.{order_onward}}
 use Rattle.numbered_sets.specs.PlainTables.{row_at}
 use Rattle.flow_exits.specs.{declared.exit.Exit.{Exit}, Exits.{AreExact}, Leaving.{AreExits}}
 use Rattle.flow_exits.proofs.Covering.{exits_cover, exits_shown}
 use Rattle.point_exits.specs.declared.group.{NumberEnd.{NumberEnd}, Ends.{Ends}, ExitGroup.{ExitGroup}}
 use Rattle.point_exits.specs.declared.group.Ends.TheVariants as ends
 use Rattle.point_exits.specs.Groups.{with_end, exits_by, exits_of, all_exits, AreKnownEnds, AreKnownGroups}
-use Rattle.point_exits.proofs.{GrowingPools.{end_known}, EntryCounts.{filled_numbers}}
+use Rattle.point_exits.proofs.{GrowingPools.{end_known}, EntryCounts.{filled_numbers, numbers_counted}, NumberLaws.{filled_plain}, ProperRows.{proper_row}}
 use Rattle.point_exits.specs.Rows.{IsProperRow}
-use Rattle.state_flow.specs.Reaching.{Leads}
+use Rattle.state_flow.specs.{Reaching.{Leads}, Parts.{IsPartRow}, Numbering.{IsKnownRow}}
 use Rattle.state_flow.proofs.ExitRows.{exits_lead, exit_row_proper}
 use Rattle.state_flow.specs.ExitRows.{all_rows, AreProperRows}
 use Rattle.state_flow.proofs.ExitJoins.{its_row, rows_of_exits}
@@ -64,6 +64,18 @@ module _ (app : App) (masks : HasMasks app) (p : Point) (pool : List Values) (en
   -- each set has a number
   pub numbers_filled : AreFilled entry
   numbers_filled = filled_numbers app pool entry its_domains proper.filled
+
+  -- a row of some of the numbers can be evaluated
+  pub part_known : (row : NumberedRow) → IsPartRow p entry row → IsKnownRow app pool row
+  part_known row part =
+      let known : AreNumbersOf pool row.entry = record { domains = part.domains ∙ numbers.domains; known = λ c n h. numbers.known c n (part.below.each c n h) } in
+      record {
+        numbers = known;
+        proper = subst (λ (q : Point). IsProperRow app (row_at q (plain_entry pool row.entry))) (sym part.at)
+            (proper_row app masks p (plain_entry pool row.entry) proper.row.point (same_domains pool 0 row.entry.sets ∙ part.domains ∙ its_domains) (plain_ascends pool row.entry)
+            (λ c v lt m. proper.allowed c v lt ((order_onward pool row.entry entry part.below).each c v m))
+            (filled_plain app pool row.entry known part.filled (let size = numbers_counted app row.entry (part.domains ∙ its_domains) in omega (arith, size))));
+      }
 
   module _ (after : List Values) (longer : IsLonger pool after) (groups : List ExitGroup) (known : AreKnownGroups after groups) (are : AreExits app p (plain_entry pool entry) (all_exits after groups)) where
     after_domains : pool_domains after ≡ domains_of app

@@ -30,7 +30,7 @@ module _ (app : App) (pool : List Values) where
 abbrev pub point_row : List Values → NumberedEntry → Point → TableRow
 point_row pool entry p = row_at p (plain_entry pool entry)
 
-map_more : {X : Type 0} (f : X → TableRow) (items : List X) (i : ℕ) (x : X) → i < length items → x ≡ get_or items i x → map f (take i items) ++ f x ∷ [] ≡ map f (take (i + 1) items)
+pub map_more : {X : Type 0} (f : X → TableRow) (items : List X) (i : ℕ) (x : X) → i < length items → x ≡ get_or items i x → map f (take i items) ++ f x ∷ [] ≡ map f (take (i + 1) items)
 map_more f items i x lt e = sym (ap (map f) (take_more items i x lt ∙ ap (λ y. take i items ++ y ∷ []) (sym e)) ∙ map-append f (take i items) (x ∷ []))
 
 pub point_more : (pool : List Values) (entry : NumberedEntry) (items : List Point) (i : ℕ) (p : Point) → i < length items → p ≡ get_or items i p → rows_at pool entry (take i items) ++ point_row pool entry p ∷ [] ≡ rows_at pool entry (take (i + 1) items)
@@ -39,7 +39,7 @@ point_more pool entry items i p lt e = map_more (point_row pool entry) items i p
 pub end_more : (pool : List Values) (entry : NumberedEntry) (items : List NumberEnd) (i : ℕ) (x : NumberEnd) → i < length items → x ≡ get_or items i x → rows_with pool entry (take i items) ++ end_row pool entry x ∷ [] ≡ rows_with pool entry (take (i + 1) items)
 end_more pool entry items i x lt e = map_more (end_row pool entry) items i x lt e
 
-listed_item : {X : Type 0} (items : List X) (i : ℕ) (x : X) → i < length items → x ≡ get_or items i x → Contains items x
+pub listed_item : {X : Type 0} (items : List X) (i : ℕ) (x : X) → i < length items → x ≡ get_or items i x → Contains items x
 listed_item items i x lt e = subst (Contains items) (sym e) (Contains-get_or items i x lt)
 
 pub point_proper : (app : App) (pool : List Values) (entry : NumberedEntry) (items : List Point) (i : ℕ) (p : Point) → i < length items → p ≡ get_or items i p → AreProperRows app (rows_at pool entry items) → IsProperRow app (point_row pool entry p)

@@ -1,5 +1,5 @@
 -- Rows that are joined to cells, one after the other.
-use Rattle.std.proofs.Common.{◌≡◌, List, [], ◌∷◌, ◌++◌, IsTrue, sym, subst, ◌∙◌, inl, inr, arith}
+use Rattle.std.proofs.Common.{◌≡◌, List, [], ◌∷◌, ◌++◌, IsTrue, refl, sym, subst, ◌∙◌, inl, inr, arith}
 use Rattle.std.specs.Prelude.{Contains}
 use Rattle.std.proofs.lemmas.List.Elements.{Contains-push, Contains-push_cases}
 use Rattle.osek_standard.specs.{declared.{app.App.{App}, point.Point.{Point}}, Points.{IsPoint}}
@@ -84,7 +84,7 @@ module _ (app : App) (cells : List (Cell PlainEntry)) (row : TableRow) (proper_c
     pub joined_one : AreJoined app cells (row ∷ []) after
     joined_one = record {
       cells_proper = record { order = joined.order; each = proper_after };
-      kept = joined.kept;
+      evaluated = joined.evaluated;
       grows = cells_contained cells (sets_in after) (λ cell h. lower_in cell.point cell.entry (joined.grows cell h));
       joins = λ other h. subst (IsRowIn (sets_in after)) (row_is other h) (lower_in row.point row.entry joined.joins);
       least = λ other old new. cells_contained after other (cell_least other old (new row (Contains-push [] row)));
@@ -96,7 +96,7 @@ module _ (app : App) where
   pub joined_none : (cells : List (Cell PlainEntry)) → AreProperCells app cells → AreJoined app cells [] cells
   joined_none cells proper_cells = record {
     cells_proper = proper_cells;
-    kept = λ cell h none. h;
+    evaluated = λ cell h entry was. record { cell = cell; among = h; at = refl; evaluated = was };
     grows = contained_itself (sets_in cells);
     joins = λ row h. absurd (omega (arith, h.1));
     least = λ other old new. old;
@@ -107,7 +107,10 @@ module _ (app : App) where
   pub joined_then : (cells now after : List (Cell PlainEntry)) (first next : List TableRow) → AreJoined app cells first now → AreJoined app now next after → AreJoined app cells (first ++ next) after
   joined_then cells now after first next so_far more = record {
     cells_proper = more.cells_proper;
-    kept = λ cell h none. so_far.kept cell (more.kept cell h none) none;
+    evaluated = λ cell h entry was.
+        (let then = more.evaluated cell h entry was in
+        let old = so_far.evaluated then.cell then.among entry then.evaluated in
+        record { cell = old.cell; among = old.among; at = old.at ∙ then.at; evaluated = old.evaluated });
     grows = contained_onward (sets_in cells) (sets_in now) (sets_in after) so_far.grows more.grows;
     joins = λ other h. elim (among_cases other first next (contained_among (first ++ next) other h)) [
       | inl old ↦ contained_row (sets_in now) (sets_in after) other more.grows (so_far.joins other (among_contained first other old))

@@ -1,5 +1,5 @@
 -- A join to the cells of all points, by values.
-use Rattle.std.proofs.Common.{◌≡◌, ℕ, ◌<◌, false, List, [], ◌∷◌, length, get_or, refl, sym, ap, subst, ◌∙◌, inl, inr, arith, All}
+use Rattle.std.proofs.Common.{◌≡◌, ℕ, ◌<◌, false, None, List, [], ◌∷◌, length, get_or, refl, sym, ap, subst, ◌∙◌, inl, inr, arith, All}
 use Rattle.std.specs.Prelude.{Contains}
 use Rattle.std.proofs.{Math.ListN.{get_or-map}, lemmas.List.{length-map, get_or_default, Sums.{sum_by-cons}}}
 use Rattle.osek_standard.specs.declared.point.Point.{Point}
@@ -8,9 +8,9 @@ use Rattle.abstract_state.specs.{declared.table.PlainEntry.{PlainEntry}, Domains
 use Rattle.numbered_sets.specs.{declared.numbered_entry.NumberedEntry.{NumberedEntry}, NumberedEntries.{entry_numbers, AreSoundNumbers, IsBelowNumbers}, Pools.{Values, AreValues}}
 use Rattle.numbered_sets.specs.Views.{plain_entry, AreNumbersOf}
 use Rattle.numbered_sets.proofs.{ViewLaws.{same_count}, KnownNumbers.{order_onward}}
-use Rattle.state_flow.specs.{declared.cells.Cell.{Cell}, Cells.{cell_number, waits, waiting_count, ranks, HasAbove, IsNewCell, IsRaisedCell, IsJoined}}
+use Rattle.state_flow.specs.{declared.cells.Cell.{Cell}, Cells.{WasEvaluatedWith, cell_number, waits, waiting_count, ranks, HasAbove, IsNewCell, IsRaisedCell, IsJoined}}
 use Rattle.state_flow.specs.PlainCells.{plain_cell, plain_cells, AreCellsOf}
-use Rattle.state_flow.proofs.Raising.{AreAlikeNumbers, AreAlikeEntries, raised_known, raised_plain}
+use Rattle.state_flow.proofs.{KeptEntries.{numbered_was, plain_was}, Raising.{AreAlikeNumbers, AreAlikeEntries, raised_known, raised_plain}}
 
 pub among_plain : (pool : List Values) (cells : List (Cell NumberedEntry)) (cell : Cell NumberedEntry) → Contains cells cell → Contains (plain_cells pool cells) (plain_cell pool cell)
 among_plain pool cells cell m = among_contained (plain_cells pool cells) (plain_cell pool cell) (among_map (plain_cell pool) cell cells (contained_among cells cell m))
@@ -46,6 +46,12 @@ module _ (pool : List Values) (cells after : List (Cell NumberedEntry)) (point :
         | inr raised ↦ raised_known pool raised.old cell entry all (of_pool.each raised.old raised.among) known raised.raised
       ]
     ];
+    before = λ cell m x kept.
+        (let old = h.evaluated cell m x (inl kept) in
+        elim old.evaluated [
+          | inl was ↦ of_pool.before old.cell old.among x was
+          | inr own ↦ subst (AreNumbersOf pool) own.1 (of_pool.each old.cell old.among)
+        ]);
   }
 
   above : (q : Point) (e : NumberedEntry) → HasAbove IsBelowNumbers after q e → HasAbove IsBelow (plain_cells pool after) q (plain_entry pool e)
@@ -63,21 +69,27 @@ module _ (pool : List Values) (cells after : List (Cell NumberedEntry)) (point :
     order = record {
       told = λ k d lt.
           (let long = length-map after (plain_cell pool) in
-          let some : Cell NumberedEntry = record { point = d.point; number = 0; entry = entry; waiting = false } in
+          let some : Cell NumberedEntry = record { point = d.point; number = 0; waiting = false; entry = entry; before = None } in
           let below : k < length after = omega (arith, lt, long) in
           subst (λ (x : Cell PlainEntry). x.number ≡ cell_number x) (sym (plain_at k d some below)) (h.order.told k some below));
       before = λ i j d lt known_place.
           (let long = length-map after (plain_cell pool) in
-          let some : Cell NumberedEntry = record { point = d.point; number = 0; entry = entry; waiting = false } in
+          let some : Cell NumberedEntry = record { point = d.point; number = 0; waiting = false; entry = entry; before = None } in
           let first = number_at i d some (omega (arith, lt, known_place, long)) in
           let second = number_at j d some (omega (arith, known_place, long)) in
           let numbered = h.order.before i j some lt (omega (arith, known_place, long)) in
           omega (arith, first, second, numbered));
     };
-    kept = λ cell m still.
+    evaluated = λ cell m z was.
         (let o = origin pool after cell m in
-        let was = h.kept o.numbered o.among (sym (ap (λ (x : Cell PlainEntry). x.waiting) o.is) ∙ still) in
-        subst (Contains (plain_cells pool cells)) (sym o.is) (among_plain pool cells o.numbered was));
+        let x = numbered_was pool o.numbered z (subst (λ (y : Cell PlainEntry). WasEvaluatedWith y z) o.is was) in
+        let old = h.evaluated o.numbered o.among x.0 x.1 in
+        record {
+          cell = plain_cell pool old.cell;
+          among = among_plain pool cells old.cell old.among;
+          at = old.at ∙ ap (λ (y : Cell PlainEntry). y.point) (sym o.is);
+          evaluated = subst (WasEvaluatedWith (plain_cell pool old.cell)) x.2 (plain_was pool old.cell x.0 old.evaluated);
+        });
     grows = λ cell m.
         (let o = origin pool cells cell m in
         subst (λ (x : Cell PlainEntry). HasAbove IsBelow (plain_cells pool after) x.point x.entry) (sym o.is) (above o.numbered.point o.numbered.entry (h.grows o.numbered o.among)));

@@ -1,6 +1,10 @@
 pub mod CellLists
 pub mod EntryUnion
 pub mod RowLaws
+pub mod KeptEntries
+pub mod NewStates
+pub mod GrownParts
+pub mod Evaluations
 pub mod ExitRows
 pub mod JoinedRows
 pub mod Closing

@@ -1,21 +1,21 @@
 -- Cells of numbered entries: what may be joined to them, and that they stay as the pool grows.
-use Rattle.std.proofs.Common.{◌≡◌, ℕ, ◌+◌, ◌<◌, ◌≤◌, false, List, [], ◌∷◌, length, get_or, set, map, refl, sym, ap, ap₂, subst, ◌∙◌, inl, inr, arith, All}
-use Rattle.std.specs.Prelude.{Contains}
+use Rattle.std.proofs.Common.{◌≡◌, ℕ, ◌+◌, ◌<◌, ◌≤◌, false, Option, None, List, [], ◌∷◌, length, get_or, set, map, refl, sym, ap, ap₂, subst, ◌∙◌, inl, inr, arith, All}
+use Rattle.std.specs.{Prelude.{option_map, Contains}, Option.{ForSome}}
 use Rattle.std.proofs.lemmas.{Bool.{cases_lt}, List.{length-map, map-set, get_or-map}}
 use Rattle.osek_standard.specs.declared.{app.App.{App}, point.Point.{Point}}
 use Rattle.osek_standard.proofs.Members.{Among, among_contained}
 use Rattle.abstract_state.specs.{declared.{table.PlainEntry.{PlainEntry}, value.Domain.{Domain}}, Components.{components, component_count}, Domains.{domain_of, domains_of}}
 use Rattle.abstract_state.proofs.ComponentLaws.{task_counted}
-use Rattle.numbered_sets.specs.{declared.numbered_entry.NumberedEntry.{NumberedEntry}, NumberedEntries.{entry_numbers, AreSoundNumbers, IsBelowNumbers}}
+use Rattle.numbered_sets.specs.{declared.{numbered_entry.NumberedEntry.{NumberedEntry}, table.NumberedRow.{NumberedRow}}, Numbers.{Numbers}, NumberedEntries.{number_domains, entry_numbers, AreSoundNumbers, IsBelowNumbers}}
 use Rattle.numbered_sets.specs.{Pools.{Values, no_values, pool_domains, AreValues, IsLonger}, Views.{plain_entry, AreNumbersOf}}
-use Rattle.numbered_sets.proofs.{ViewLaws.{same_view, still_known, same_heights}, KnownNumbers.{known_sound}}
-use Rattle.numbered_sets.specs.PlainTables.{row_at}
+use Rattle.numbered_sets.proofs.{ViewLaws.{same_view, still_known, same_heights, same_domains}, KnownNumbers.{known_sound}}
+use Rattle.numbered_sets.specs.PlainTables.{row_at, plain_row, plain_rows}
 use Rattle.state_flow.specs.{declared.cells.Cell.{Cell}, Cells.{cell_number, AreInOrder, IsWaitingAt, NoneWaitsFrom, MayJoin, IsJoined}}
 use Rattle.point_exits.specs.Rows.{IsProperRow}
 use Rattle.state_flow.specs.Progress.{AreProperCells, AreJoined}
 use Rattle.state_flow.proofs.{CellLists.{set_cases}, JoinedRows.{may_join, joined_one}, Closing.{evaluated, evaluated_proper, progress_made}}
-use Rattle.state_flow.specs.{PlainCells.{plain_cell, plain_cells, AreCellsOf}, Numbering.{AreNumberedCells, IsEvaluated, HasProgress}}
-use Rattle.state_flow.proofs.{Raising.{AreAlikeNumbers}, JoiningCells.{among_plain, joined_known, joined_plain}}
+use Rattle.state_flow.specs.{PlainCells.{plain_cell, plain_cells, AreCellsOf}, Numbering.{AreNumberedCells, AreEvaluated, IsKnownRow, HasProgress}, Parts.{AreRowsBeside}}
+use Rattle.state_flow.proofs.{KeptEntries.{some_of_map, kept_same}, NewStates.{rows_of_cell}, Raising.{AreAlikeNumbers}, JoiningCells.{among_plain, joined_known, joined_plain}}
 
 plain_at : (pool : List Values) (cells : List (Cell NumberedEntry)) (k : ℕ) (d : Cell PlainEntry) (some : Cell NumberedEntry) → k < length cells → get_or (plain_cells pool cells) k d ≡ plain_cell pool (get_or cells k some)
 plain_at pool cells k d some lt = get_or-map (plain_cell pool) cells k some d lt
@@ -39,14 +39,14 @@ pub waits_plain : (pool : List Values) (cells : List (Cell NumberedEntry)) (plac
 waits_plain pool cells place h = record {
   known = (let long = length-map cells (plain_cell pool) in omega (arith, h.known, long));
   waits = λ d.
-      (let some : Cell NumberedEntry = record { point = d.point; number = 0; entry = record { sets = [] }; waiting = false } in
+      (let some : Cell NumberedEntry = record { point = d.point; number = 0; waiting = false; entry = record { sets = [] }; before = None } in
       ap (λ (x : Cell PlainEntry). x.waiting) (plain_at pool cells place d some h.known) ∙ h.waits some);
 }
 
 pub none_waits_plain : (pool : List Values) (cells : List (Cell NumberedEntry)) (from : ℕ) → NoneWaitsFrom cells from → NoneWaitsFrom (plain_cells pool cells) from
 none_waits_plain pool cells from h k d le lt =
     let long = length-map cells (plain_cell pool) in
-    let some : Cell NumberedEntry = record { point = d.point; number = 0; entry = record { sets = [] }; waiting = false } in
+    let some : Cell NumberedEntry = record { point = d.point; number = 0; waiting = false; entry = record { sets = [] }; before = None } in
     let below : k < length cells = omega (arith, lt, long) in
     ap (λ (x : Cell PlainEntry). x.waiting) (plain_at pool cells k d some below) ∙ h k some le below
 
@@ -72,17 +72,27 @@ module _ (app : App) (pool : List Values) (cells : List (Cell NumberedEntry)) (p
 
 -- ---- longer pools
 
-cells_by : (pool after : List Values) (cells : List (Cell NumberedEntry)) → IsLonger pool after → ((cell : Cell NumberedEntry) → Among cell cells → AreNumbersOf pool cell.entry) → plain_cells after cells ≡ plain_cells pool cells
-cells_by pool after [] longer known = refl
-cells_by pool after (x ∷ xs) longer known =
-    ap₂ (λ (e : PlainEntry) (rest : List (Cell PlainEntry)). record { point = x.point; number = x.number; entry = e; waiting = x.waiting } ∷ rest) (same_view pool after x.entry longer (known x (inl refl)))
-    (cells_by pool after xs longer (λ cell m. known cell (inr m)))
+cell_same : (pool after : List Values) (cell : Cell NumberedEntry) → IsLonger pool after → AreNumbersOf pool cell.entry → ForSome cell.before (AreNumbersOf pool) → plain_cell after cell ≡ plain_cell pool cell
+cell_same pool after cell longer known kept = λ i. record {
+  point = cell.point;
+  number = cell.number;
+  waiting = cell.waiting;
+  entry = same_view pool after cell.entry longer known i;
+  before = kept_same pool after cell.before longer kept i;
+}
+
+cells_by : (pool after : List Values) (cells : List (Cell NumberedEntry)) → IsLonger pool after → ((cell : Cell NumberedEntry) → Among cell cells → plain_cell after cell ≡ plain_cell pool cell) → plain_cells after cells ≡ plain_cells pool cells
+cells_by pool after [] longer same = refl
+cells_by pool after (x ∷ xs) longer same = ap₂ (λ (y : Cell PlainEntry) (rest : List (Cell PlainEntry)). y ∷ rest) (same x (inl refl)) (cells_by pool after xs longer (λ cell m. same cell (inr m)))
 
 pub cells_same : (pool after : List Values) (cells : List (Cell NumberedEntry)) → IsLonger pool after → AreCellsOf pool cells → plain_cells after cells ≡ plain_cells pool cells
-cells_same pool after cells longer known = cells_by pool after cells longer (λ cell m. known.each cell (among_contained cells cell m))
+cells_same pool after cells longer known = cells_by pool after cells longer (λ cell m. let c = among_contained cells cell m in cell_same pool after cell longer (known.each cell c) (known.before cell c))
 
 pub cells_known : (pool after : List Values) (cells : List (Cell NumberedEntry)) → IsLonger pool after → AreCellsOf pool cells → AreCellsOf after cells
-cells_known pool after cells longer known = record { each = λ cell m. still_known pool after cell.entry longer (known.each cell m) }
+cells_known pool after cells longer known = record {
+  each = λ cell m. still_known pool after cell.entry longer (known.each cell m);
+  before = λ cell m x kept. still_known pool after x longer (known.before cell m x kept);
+}
 
 pub cells_on : (app : App) (pool after : List Values) (cells : List (Cell NumberedEntry)) → IsLonger pool after → AreNumberedCells app pool cells → AreNumberedCells app after cells
 cells_on app pool after cells longer h = record {
@@ -90,10 +100,23 @@ cells_on app pool after cells longer h = record {
   proper = subst (AreProperCells app) (sym (cells_same pool after cells longer h.known)) h.proper;
 }
 
+-- a row can be evaluated as before
+pub row_same : (pool after : List Values) (row : NumberedRow) → IsLonger pool after → AreNumbersOf pool row.entry → plain_row after row ≡ plain_row pool row
+row_same pool after row longer known = ap (row_at row.point) (same_view pool after row.entry longer known)
+
+pub known_still : (app : App) (pool after : List Values) (row : NumberedRow) → IsLonger pool after → IsKnownRow app pool row → IsKnownRow app after row
+known_still app pool after row longer h = record {
+  numbers = still_known pool after row.entry longer h.numbers;
+  proper = subst (IsProperRow app) (sym (row_same pool after row longer h.numbers)) h.proper;
+}
+
 -- ---- an evaluation
 
-abbrev pub asked : Cell NumberedEntry → Cell NumberedEntry
-asked cell = record cell { waiting = false }
+abbrev pub asked : Cell NumberedEntry → Option NumberedEntry → Cell NumberedEntry
+asked cell kept = record cell { waiting = false; before = kept }
+
+pub nothing_kept : (cell : Cell NumberedEntry) → ForSome None (λ (x : NumberedEntry). x ≡ cell.entry)
+nothing_kept cell x is_kept = absurd (cc)
 
 module _ (app : App) (pool : List Values) (cells : List (Cell NumberedEntry)) (place : ℕ) (cell : Cell NumberedEntry) (numbered : AreNumberedCells app pool cells) (waits : IsWaitingAt cells place) (is : get_or cells place cell ≡ cell) where
   among : Contains cells cell
@@ -111,31 +134,49 @@ module _ (app : App) (pool : List Values) (cells : List (Cell NumberedEntry)) (p
   plain_is : get_or (plain_cells pool cells) place (plain_cell pool cell) ≡ plain_cell pool cell
   plain_is = plain_at pool cells place (plain_cell pool cell) cell waits.known ∙ ap (plain_cell pool) is
 
-  asked_known : AreCellsOf pool (set cells place (asked cell))
-  asked_known = record {
-    each = λ x m. elim (set_cases cells place (asked cell) x m) [
-      | inl new ↦ subst (λ (y : Cell NumberedEntry). AreNumbersOf pool y.entry) (sym new) numbers_there
-      | inr old ↦ numbered.known.each x old
-    ];
-  }
+  -- what is kept of a cell before
+  pub kept_there : ForSome cell.before (AreNumbersOf pool)
+  kept_there = numbered.known.before cell among
 
-  asked_same : plain_cells pool (set cells place (asked cell)) ≡ set (plain_cells pool cells) place (evaluated (plain_cell pool cell))
-  asked_same = map-set (plain_cell pool) cells place (asked cell)
+  pub kept_long : ForSome cell.before (λ x. length x.sets ≡ length cell.entry.sets)
+  kept_long x is_kept =
+      let same : number_domains x ≡ number_domains cell.entry = (kept_there x is_kept).domains ∙ sym numbers_there.domains in
+      sym (length-map x.sets (λ (y : Numbers). y.domain)) ∙ ap (λ (ds : List Domain). length ds) same ∙ length-map cell.entry.sets (λ (y : Numbers). y.domain)
 
-  pub asked_cells : AreNumberedCells app pool (set cells place (asked cell))
-  asked_cells = record {
-    known = asked_known;
-    proper = subst (AreProperCells app) (sym asked_same) (evaluated_proper (plain_cells pool cells) place (plain_cell pool cell) plain_known plain_is app numbered.proper);
-  }
+  -- the cell keeps its own entry, or none
+  module _ (kept : Option NumberedEntry) (as_is : ForSome kept (λ x. x ≡ cell.entry)) where
+    asked_known : AreCellsOf pool (set cells place (asked cell kept))
+    asked_known = record {
+      each = λ x m. elim (set_cases cells place (asked cell kept) x m) [
+        | inl new ↦ subst (λ (y : Cell NumberedEntry). AreNumbersOf pool y.entry) (sym new) numbers_there
+        | inr old ↦ numbered.known.each x old
+      ];
+      before = λ x m e is_kept. elim (set_cases cells place (asked cell kept) x m) [
+        | inl new ↦ subst (AreNumbersOf pool) (sym (as_is e (ap (λ (y : Cell NumberedEntry). y.before) (sym new) ∙ is_kept))) numbers_there
+        | inr old ↦ numbered.known.before x old e is_kept
+      ];
+    }
 
-  pub progress_on : (after : List Values) (end : List (Cell NumberedEntry)) → AreCellsOf after end → IsEvaluated app cell.point (plain_entry pool cell.entry) (plain_cells pool (set cells place (asked cell))) (plain_cells after end)
-      → (n : ℕ) → HasProgress app pool cells n → HasProgress app after end (n + 1)
-  progress_on after end known h n progress = record {
-    known = known;
-    progress =
-        progress_made (plain_cells pool cells) place (plain_cell pool cell) plain_known plain_is app h.rows (plain_cells after end) (sym (ap (λ (x : Cell NumberedEntry). x.waiting) is) ∙ waits.waits cell) h.leads
-        (subst (λ (xs : List (Cell PlainEntry)). AreJoined app xs h.rows (plain_cells after end)) asked_same h.joined) n progress.progress;
-  }
+    asked_same : plain_cells pool (set cells place (asked cell kept)) ≡ set (plain_cells pool cells) place (evaluated (plain_cell pool cell) (option_map (plain_entry pool) kept))
+    asked_same = map-set (plain_cell pool) cells place (asked cell kept)
+
+    pub asked_cells : AreNumberedCells app pool (set cells place (asked cell kept))
+    asked_cells = record {
+      known = asked_known;
+      proper = subst (AreProperCells app) (sym asked_same) (evaluated_proper (plain_cells pool cells) place (plain_cell pool cell) plain_known plain_is (option_map (plain_entry pool) kept) app numbered.proper);
+    }
+
+    pub progress_on : (rows : List NumberedRow) (after : List Values) (end : List (Cell NumberedEntry)) → AreCellsOf after end → AreRowsBeside cell.point cell.entry cell.before rows
+        → AreEvaluated app (plain_rows pool rows) (plain_cells pool (set cells place (asked cell kept))) (plain_cells after end) → (n : ℕ) → HasProgress app pool cells n → HasProgress app after end (n + 1)
+    progress_on rows after end known beside h n progress = record {
+      known = known;
+      progress =
+          progress_made (plain_cells pool cells) place (plain_cell pool cell) plain_known plain_is (option_map (plain_entry pool) kept) app (plain_rows pool rows) (plain_cells after end)
+          (sym (ap (λ (x : Cell NumberedEntry). x.waiting) is) ∙ waits.waits cell)
+          (λ z e. let x = some_of_map (plain_entry pool) kept z e in sym x.2 ∙ ap (plain_entry pool) (as_is x.0 x.1))
+          (rows_of_cell app pool cell rows (sym (same_domains pool 0 cell.entry.sets) ∙ proper_there.row.domains) numbers_there kept_there beside)
+          (subst (λ (xs : List (Cell PlainEntry)). AreEvaluated app (plain_rows pool rows) xs (plain_cells after end)) asked_same h) n progress.progress;
+    }
 
 pub domains_kept : (ds : List Domain) → pool_domains (map no_values ds) ≡ ds
 domains_kept [] = refl

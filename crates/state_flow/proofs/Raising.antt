@@ -14,7 +14,8 @@ use Rattle.numbered_sets.specs.NumberedEntries.{no_set, numbers_at, number_domai
 use Rattle.numbered_sets.specs.{Pools.{Values, no_values, values_at, domain_at, AreValues}, Views.{plain_entry, AreNumbersOf}}
 use Rattle.numbered_sets.proofs.{PlainLaws.{has_value, member_of_plain, value_with_number, plain_set_at}, ViewLaws.{same_count, same_domains, plain_sound}}
 use Rattle.numbered_sets.proofs.KnownNumbers.{found, no_bit_of_none, order_onward}
-use Rattle.state_flow.specs.{declared.cells.Cell.{Cell}, Cells.{IsRaised}, PlainCells.{plain_cell}}
+use Rattle.state_flow.specs.{declared.cells.Cell.{Cell}, Cells.{IsRaised, WasEvaluatedWith}, PlainCells.{plain_cell}}
+use Rattle.state_flow.proofs.KeptEntries.{numbered_was, plain_was}
 
 -- the numbers of the pool's values that pass a test
 module _ (pool : List Values) (test : ℕ → ℕ → Bool) where
@@ -113,5 +114,5 @@ module _ (pool : List Values) (cell after : Cell NumberedEntry) (entry : Numbere
     least = λ z left right. out_of_numbers pool z after.entry (h.least (numbers_passing pool (chosen pool z)) (into_numbers pool z cell.entry known left) (into_numbers pool z entry too right));
     stays = h.stays;
     counts = (let old = same_count pool cell.entry all known in let new = same_count pool after.entry all raised_known in omega (arith, old, new, h.counts));
-    same = λ done. ap (plain_cell pool) (h.same done);
+    evaluated = λ z was. let x = numbered_was pool after z was in subst (WasEvaluatedWith (plain_cell pool cell)) x.2 (plain_was pool cell x.0 (h.evaluated x.0 x.1));
   }

@@ -1,5 +1,5 @@
 -- What the table of cells says, cell by cell, and that it is proper.
-use Rattle.std.proofs.Common.{◌≡◌, ℕ, ◌+◌, ◌<◌, false, List, [], length, map, get_or, IsTrue, refl, sym, ap, subst, ◌∙◌, arith}
+use Rattle.std.proofs.Common.{◌≡◌, ℕ, ◌+◌, ◌<◌, false, None, List, [], length, map, get_or, IsTrue, refl, sym, ap, subst, ◌∙◌, arith}
 use Rattle.std.specs.{Prelude.{Contains}, List.Sorted.{IsStrictlySortedBy}, Ordering.{nat_cmp}}
 use Rattle.std.proofs.lemmas.{List.{length-map, get_or-map, Elements.{Contains-get_or}}, Map.Keys.{sorted_from_strictly_increasing}}
 use Rattle.std.proofs.lemmas.Map.Views.{Contains-from_any, list_any-from_Contains}
@@ -85,7 +85,7 @@ abbrev numbers : List (Cell PlainEntry) → List ℕ
 numbers cells = map (λ (row : TableRow). point_number row.point) (map row_of cells)
 
 abbrev no_cell : Cell PlainEntry
-no_cell = record { point = point.Halted; number = 0; entry = record { sets = [] }; waiting = false }
+no_cell = record { point = point.Halted; number = 0; waiting = false; entry = record { sets = [] }; before = None }
 
 pub numbers_long : (cells : List (Cell PlainEntry)) → length (numbers cells) ≡ length cells
 numbers_long cells = length-map (map row_of cells) (λ (row : TableRow). point_number row.point) ∙ length-map cells row_of

@@ -1,5 +1,5 @@
 -- Points that were reached, with what is known of each, in the order of the points.
-use Rattle.std.specs.Prelude.{◌≡◌, ◌⊎◌, ℕ, ◌+◌, ◌<◌, ◌≤◌, true, false, List, length, slice_index_or, sum_by, if◌then◌else◌, Contains}
+use Rattle.std.specs.Prelude.{◌≡◌, ◌⊎◌, ℕ, ◌+◌, ◌<◌, ◌≤◌, true, false, Some, List, length, slice_index_or, sum_by, if◌then◌else◌, Contains}
 use Rattle.osek_standard.specs.{declared.point.Point.{Point}, Points.{point_number}}
 use Rattle.state_flow.specs.declared.cells.Cell.{Cell}
 
@@ -50,6 +50,17 @@ module _ {E : Type 0} where
   abbrev pub IsNextWaiting : List (Cell E) → ℕ → ℕ → Type 0
   IsNextWaiting cells from place = IsFirstWaiting cells from place ⊎ (NoneWaitsFrom cells from × IsFirstWaiting cells 0 place)
 
+  -- The point was evaluated with this entry: the one that the cell keeps of then, or its own where it doesn't wait.
+  abbrev pub WasEvaluatedWith : Cell E → E → Type 0
+  WasEvaluatedWith cell entry = (cell.before ≡ Some entry) ⊎ ((cell.waiting ≡ false) × (cell.entry ≡ entry))
+
+  -- a cell of the point was evaluated with the entry
+  pub record HasEvaluated (cells : List (Cell E)) (point : Point) (entry : E) : Type 0 where
+    pub cell : Cell E
+    pub among : Contains cells cell
+    pub at : cell.point ≡ point
+    pub evaluated : WasEvaluatedWith cell entry
+
   abbrev pub waits : Cell E → ℕ
   waits cell = if cell.waiting then 1 else 0
 
@@ -92,7 +103,7 @@ module _ {E : Type 0} (IsElement : E → Type 0) (AreAlike IsLower : E → E →
     pub least : (z : E) → IsLower cell.entry z → IsLower entry z → IsLower after.entry z
     pub stays : waits cell ≤ waits after
     pub counts : waits after + rank cell.entry ≤ waits cell + rank after.entry
-    pub same : after.waiting ≡ false → after ≡ cell
+    pub evaluated : (e : E) → WasEvaluatedWith after e → WasEvaluatedWith cell e
 
   -- it is a cell of the point to whose entry this one was joined
   pub record IsRaisedCell (cells : List (Cell E)) (point : Point) (entry : E) (cell : Cell E) : Type 0 where
@@ -101,11 +112,11 @@ module _ {E : Type 0} (IsElement : E → Type 0) (AreAlike IsLower : E → E →
     pub at : old.point ≡ point
     pub raised : IsRaised old entry cell
 
-  -- The entry was joined to the cell of its point, or stands in a new one; the other cells stay. A cell that doesn't wait
-  -- stood there as it is, and no more cells are to be evaluated than cells and values came in.
+  -- The entry was joined to the cell of its point, or stands in a new one; the other cells stay. What a point was evaluated
+  -- with it was evaluated with before, and no more cells are to be evaluated than cells and values came in.
   pub record IsJoined (cells : List (Cell E)) (point : Point) (entry : E) (after : List (Cell E)) : Type 0 where
     pub order : AreInOrder after
-    pub kept : (cell : Cell E) → Contains after cell → cell.waiting ≡ false → Contains cells cell
+    pub evaluated : (cell : Cell E) → Contains after cell → (e : E) → WasEvaluatedWith cell e → HasEvaluated cells cell.point e
     pub grows : (cell : Cell E) → Contains cells cell → HasAbove IsLower after cell.point cell.entry
     pub joins : HasAbove IsLower after point entry
     pub from : (cell : Cell E) → Contains after cell → Contains cells cell ⊎ (IsNewCell point entry cell ⊎ IsRaisedCell cells point entry cell)

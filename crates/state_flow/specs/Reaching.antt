@@ -19,8 +19,18 @@ pub record IsReached (app : App) (p : Point) (entry : PlainEntry) (row : TableRo
   pub proper : IsProperRow app row
   pub least : (other : Sets) → Inductive app other → IsRowIn other (row_at p entry) → IsRowIn other row
 
+-- Each step of a state of a row that shows something leads to a state of some others.
+abbrev pub StepsLeadTo : App → TableRow → List TableRow → Type 0
+StepsLeadTo app row ends = (s : State) (e : Event) → IsAt app row.point row.entry s → (shows app s e ≡ Silent → ⊥) → IsLed app ends (step app s e).state
+
 -- Each step of a state of the entry that shows something leads to a state of the rows, and the rows have no more than
 -- that.
 pub record Leads (app : App) (p : Point) (entry : PlainEntry) (rows : List TableRow) : Type 0 where
-  pub covers : (s : State) (e : Event) → IsAt app p entry s → (shows app s e ≡ Silent → ⊥) → IsLed app rows (step app s e).state
+  pub covers : StepsLeadTo app (row_at p entry) rows
   pub each : (row : TableRow) → Contains rows row → IsReached app p entry row
+
+-- one of the rows has all that it takes to reach the end
+pub record IsReachedFrom (app : App) (rows : List TableRow) (end : TableRow) : Type 0 where
+  pub from : TableRow
+  pub among : Contains rows from
+  pub reached : IsReached app from.point from.entry end

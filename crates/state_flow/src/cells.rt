@@ -18,6 +18,8 @@ pub struct Cell<E> {
     /// It is to be evaluated: it is new, or its entry grew since it was.
     pub waiting: bool,
     pub entry: Kept<E>,
+    /// What the entry was when the point was last evaluated, where that is kept.
+    pub before: Option<Kept<E>>,
 }
 
 impl<E: Lattice> Cell<E> {
@@ -109,6 +111,7 @@ pub fn join<E: Lattice + Drop>(
                     number: point.number(),
                     waiting: true,
                     entry,
+                    before: None,
                 },
             )?
         }

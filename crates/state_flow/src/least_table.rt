@@ -7,13 +7,13 @@ ghost use Rattle.point_exits.specs.Levels.{AreLevels};
 ghost use Rattle.state_flow.specs.{Cells.{IsWaitingAt}, Progress.{Progress}, PlainCells.{plain_cells, AreCellsOf}, Numbering.{AreNumberedCells, HasProgress}};
 
 use crate::cells::{Cell, next_waiting, place_behind};
-use crate::joining::join_groups;
+use crate::evaluation::turn;
 use crate::numbered_cells::{put_in, rows};
 use abstract_state::{Domain, LiveVal, PartValue, PlainEntry, Val, masks_are_few};
 use numbered_sets::{NumberedEntry, Pool, Table, numbered};
 use osek_standard::App;
 use osek_values::{BlockNo, Held, Memory, ModeNo, Steps};
-use point_exits::{Levels, exit_groups, start_row};
+use point_exits::{Levels, start_row};
 use std::alloc::Global;
 use std::sync::ledger::Ledger;
 
@@ -119,26 +119,4 @@ fn started(alloc: Global, app: &App, pool: &mut Pool) -> Result<Vec<Cell<Numbere
         put_in(alloc, app, pool, &mut cells, row.point, &entry)?;
     }
     Ok(cells)
-}
-
-/// Evaluates a point that waits, and joins in what it leads to. The pool grows by the values that it lacks, and the levels with it.
-fn turn(
-    alloc: Global,
-    app: &App,
-    pool: &mut Pool,
-    levels: &mut Levels,
-    cells: &mut Vec<Cell<NumberedEntry>>,
-    place: usize,
-) -> Result<(), Memory>
-    requires masks { HasMasks app.now }
-    requires levels { AreLevels app.now pool.old levels.old }
-    requires cells { AreNumberedCells app.now pool.old cells.old.items }
-    requires waits { IsWaitingAt cells.old.items place }
-    ensures levels { OnOk result (AreLevels app.now pool.new levels.new) }
-    ensures progress { OnOk result ((n : ℕ) → HasProgress app.now pool.old cells.old.items n → HasProgress app.now pool.new cells.new.items (n + 1)) }
-{
-    let cell = &mut cells[place];
-    cell.waiting = false;
-    let groups = exit_groups(alloc, app, cell.point, cell.entry.get(), pool, levels)?;
-    join_groups(alloc, app, groups, pool, cells)
 }

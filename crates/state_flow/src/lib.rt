@@ -4,12 +4,14 @@
 mod cells;
 mod counts;
 mod entry;
+mod evaluation;
 mod joining;
 mod kept;
 mod lattice;
 mod least_table;
 mod numbered;
 mod numbered_cells;
+mod parts;
 
 pub use counts::values;
 pub use lattice::Lattice;

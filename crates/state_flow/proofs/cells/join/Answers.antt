@@ -16,4 +16,4 @@ returns-in_ok-insert-in-Err g c =
     let L = g.E.Lattice in
     let at = rw c.as_slice.ensures.value at c.in-Err.ensures.gap in
     rw c.in_ok-insert-in-Err.ensures.items
-    (joined_new L.is_element L.alike L.is_below L.rank g.met.E.Lattice.reflexive c.args.cells.now.items c.args.point c.args.entry.now c.requires.order c.requires.may c.in-Err.gap _ refl (c.in_ok-entry-in-Err.ensures ∙ c.in_ok-copy-in-Err.ensures) refl c.number.ensures at)
+    (joined_new L.is_element L.alike L.is_below L.rank g.met.E.Lattice.reflexive c.args.cells.now.items c.args.point c.args.entry.now c.requires.order c.requires.may c.in-Err.gap _ refl (c.in_ok-entry-in-Err.ensures ∙ c.in_ok-copy-in-Err.ensures) refl refl c.number.ensures at)
