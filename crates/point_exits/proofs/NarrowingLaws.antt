@@ -11,7 +11,7 @@ use Rattle.numbered_sets.proofs.{ViewLaws.{false_unless}, MeetLaws.{has_other, c
 use Rattle.flow_exits.specs.Claims.{is_below}
 use Rattle.flow_exits.proofs.PriorityTests.{below_means, below_passes}
 use Rattle.point_exits.specs.declared.task_levels.{Level.{Level}, TaskLevels.{TaskLevels}}
-use Rattle.point_exits.specs.Levels.{IsLiveAt, IsDead, HasLevel, AreTaskLevels, AreAllJudged, HasLevelBelow, HasBelow, IsLeastLimit, IsNarrowed}
+use Rattle.point_exits.specs.Levels.{IsLiveAt, IsDead, HasLevel, AreTaskLevels, AreAllJudged, HasBelow, IsLeastLimit, IsNarrowed}
 
 -- ---- values and a limit
 
@@ -29,6 +29,13 @@ module _ (app : App) (u limit : ℕ) (v : PartValue) where
   live_not_below p h le = false_unless (is_below app u limit (val_of v)) (p < limit) (below_limit p h) (λ lt. omega (arith, lt, le))
 
 -- ---- the least limit
+
+-- some level that has one of these numbers is below the limit
+pub record HasLevelBelow (levels : List Level) (x : Numbers) (limit : ℕ) : Type 0 where
+  pub level : Level
+  pub listed : Contains levels level
+  pub meets : IsTrue (meets x level.numbers)
+  pub below : level.priority < limit
 
 module _ (app : App) (u : ℕ) (vs : List PartValue) (levels : TaskLevels) (x : Numbers) (h : AreTaskLevels app u vs levels) (all : AreAllJudged levels x) where
   pub least_of_dead : IsTrue (meets x levels.dead) → IsLeastLimit app u vs x 0

@@ -1,6 +1,6 @@
 -- Sources whose set has no other value than Out.
 use Rattle.std.proofs.Common.{◌≡◌, ℕ, ◌+◌, ◌<◌, Bool, true, false, not, ◌&&◌, ◌||◌, List, [], ◌∷◌, ◌++◌, length, map, flat_map, refl, sym, ap, subst, ◌∙◌, inl, inr, arith, get_or}
-use Rattle.std.specs.{Prelude.{◌==◌}, List.{range_with_len}}
+use Rattle.std.specs.{Prelude.{◌==◌}, List.{range_with_len}, Bool.{OnTrue, OnFalse}}
 use Rattle.std.proofs.Math.Seq.{get_or-append_seam}
 use Rattle.std.proofs.lemmas.Bool.{cases_order, eqb-true, false≢true}
 use Rattle.std.proofs.lemmas.List.{get_or_append_left, get_or_past, length-append, FromFn.{length-map-range_with_len}}
@@ -11,12 +11,20 @@ use Rattle.abstract_state.specs.declared.value.Component.TheVariants as componen
 use Rattle.abstract_state.specs.declared.value.SourceVal.TheVariants as source_val
 use Rattle.abstract_state.specs.{Components.{component_count, component_number, events_of}, Domains.{domains_of}, Tables.{is_member}, ValueOrder.{same_part}}
 use Rattle.abstract_state.proofs.OrderLaws.{part_right}
-use Rattle.flow_model.specs.Effects.{AreIn}
+use Rattle.flow_model.specs.declared.test.Condition.{Condition}
+use Rattle.flow_model.specs.declared.test.Test.TheVariants as test
+use Rattle.flow_model.specs.{Effects.{AreIn}, Cases.{condition}}
 use Rattle.numbered_sets.specs.{declared.numbered_entry.NumberedEntry.{NumberedEntry}, NumberedEntries.{numbers_at, number_domains}, Pools.{Values, values_at}, Views.{plain_set, plain_entry}}
 use Rattle.numbered_sets.proofs.PlainLaws.{plain_set_at}
 use Rattle.flow_effects.specs.Outs.{AreOutIn}
-use Rattle.point_exits.specs.Sifting.{HasOutAlone}
+use Rattle.point_exits.specs.Sifting.{HasOutAlone, LeavesNone}
 use Rattle.point_exits.proofs.EntryCounts.{numbers_counted}
+
+-- a source for which no value but Out may pass
+pub out_if : (pool : List Values) (c : ℕ) (entry : NumberedEntry) (may : Bool) → OnFalse may ((x : Condition) → x.component.0 ≡ c → x.test ≡ test.IsNot (OfSource source_val.Out) → LeavesNone pool (x ∷ []) entry)
+    → OnTrue (not may) (HasOutAlone pool c entry)
+out_if pool c entry true h = tt
+out_if pool c entry false h = h (condition c (test.IsNot (OfSource source_val.Out))) refl refl
 
 module _ (app : App) where
   -- the sources' components come last

@@ -6,7 +6,7 @@ use Rattle.abstract_state.specs.declared.value.Component.TheVariants as componen
 use Rattle.abstract_state.specs.{declared.value.PartValue.{PartValue}, Concrete.{val_of}, Domains.{domain_of}}
 use Rattle.flow_model.specs.declared.change.Update.TheVariants as update
 use Rattle.flow_model.specs.{Values.{is_live_value, value_priority}, Tests.{updated}}
-use Rattle.numbered_sets.specs.{declared.numbered_entry.NumberedEntry.{NumberedEntry}, Numbers.{Numbers, has_number, meets}, NumberedEntries.{numbers_at}}
+use Rattle.numbered_sets.specs.{declared.numbered_entry.NumberedEntry.{NumberedEntry}, Numbers.{Numbers, has_number}, NumberedEntries.{numbers_at}}
 use Rattle.numbered_sets.specs.Pools.{Values, values_at, domain_at, IsNumberOf}
 use Rattle.flow_exits.specs.Claims.{is_below}
 use Rattle.point_exits.specs.declared.{insides.Insides.{Insides}, task_levels.{Level.{Level}, TaskLevels.{TaskLevels}}, levels.Levels.{Levels}}
@@ -88,13 +88,6 @@ module _ (app : App) (pool : List Values) (levels : Levels) where
     pub are : AreLevels
     pub all : (u : ℕ) (d : TaskLevels) → u < length app.tasks → (slice_index_or levels.tasks u d).judged ≡ length (values_at pool u)
     pub inside : AreAllInside pool levels.insides
-
--- some level that has one of these numbers is below the limit
-pub record HasLevelBelow (levels : List Level) (x : Numbers) (limit : ℕ) : Type 0 where
-  pub level : Level
-  pub listed : Contains levels level
-  pub meets : IsTrue (meets x level.numbers)
-  pub below : level.priority < limit
 
 -- some value of these numbers is below the limit, or not Live
 pub record HasBelow (app : App) (u limit : ℕ) (vs : List PartValue) (x : Numbers) : Type 0 where

@@ -1,7 +1,7 @@
 //! What the scheduler decides with the values after an effect: who keeps the processor or gets it, and what is left of the values then.
 ghost use Rattle.std.specs.{Prelude.{◌≡◌, ◌<◌, IfOk, OnOk, ◌≤◌, ◌+◌, not, length, IfSome, IfNone, None, false, Some}, Bool.{OnTrue, OnFalse}};
 ghost use Rattle.flow_exits.specs.{Outcomes.{IsVacant, idle_decision as idle_decision_of}, Claims.{limit_of}, Needs.{is_too_low, IsTooLow}};
-ghost use Rattle.point_exits.specs.Deciding.{AreStayEnds, AreEndsBy, AddsOne, IsAlive, IsAny, IsIt, IsKnownDecision, IsWhole, IsCut, NeverAt, IsAsked, IsAtLevel, IsLevelOf, IsWinnerBelow, over_of};
+ghost use Rattle.point_exits.specs.Deciding.{AreEndsBy, AddsOne, IsAlive, IsAny, IsIt, IsKnownDecision, IsWhole, IsCut, NeverAt, IsAsked, IsAtLevel, IsLevelOf, IsWinnerBelow, over_of};
 ghost use Rattle.point_exits.specs.{AfterEffect.{IsDecidable, Adds, AreNeedsOf, IsLeftBy}, Narrowing.{AreMet, NeverUnder}};
 ghost use Rattle.numbered_sets.specs.NumberedEntries.{AreFilled};
 ghost use Rattle.osek_standard.specs.States.{is_that_task};
@@ -175,20 +175,12 @@ impl<'a> AfterEffect<'a> {
         ensures { IfOk result (AreEndsBy self.now.pool.now entry.now self.now.leaving.stay decision) }
     {
         match decision {
-            Decision::Keep => self.ends_of_stay(alloc, entry),
+            Decision::Keep => match self.leaving.stay {
+                Stay::At(point) => at(alloc, point),
+                Stay::AtBlockOf(runner) => at_blocks(alloc, self.pool, runner, entry),
+            },
             Decision::To(None) => at(alloc, Point::Idle),
             Decision::To(Some(task)) => at_blocks(alloc, self.pool, Runner::Task(task), entry),
-        }
-    }
-
-    fn ends_of_stay(&self, alloc: Global, entry: &NumberedEntry) -> Result<Ends, Memory>
-        requires decidable { IsDecidable self.now }
-        requires whole { IsWhole self.now.app.now self.now.pool.now entry.now }
-        ensures { IfOk result (AreStayEnds self.now.pool.now entry.now self.now.leaving.stay) }
-    {
-        match self.leaving.stay {
-            Stay::At(point) => at(alloc, point),
-            Stay::AtBlockOf(runner) => at_blocks(alloc, self.pool, runner, entry),
         }
     }
 

@@ -1,9 +1,9 @@
 //! The rules by which routines begin, and the exits of a point by them.
-ghost use Rattle.std.specs.{Prelude.{◌≡◌, [], None, ◌<◌, true, List, length, slice_index_or, IfOk, OnOk, IfSome}, Bool.{OnTrue}};
+ghost use Rattle.std.specs.Prelude.{◌≡◌, ◌<◌, true, List, length, slice_index_or, IfOk, OnOk, IfSome};
 ghost use Rattle.osek_standard.specs.declared.{app.App.{App}, point.Point.{Point}};
 ghost use Rattle.abstract_state.specs.Domains.{domains_of};
 ghost use Rattle.flow_model.specs.declared.{change.Change.{Change}, rule.Rule.{Rule}};
-ghost use Rattle.numbered_sets.specs.{NumberedEntries.{number_domains, AreFilled}, Pools.{Values, values_at, IsNumberOf, IsLonger}};
+ghost use Rattle.numbered_sets.specs.{NumberedEntries.{number_domains, AreFilled}, Pools.{Values, IsLonger}};
 ghost use Rattle.numbered_sets.specs.Views.{plain_entry, AreNumbersOf};
 ghost use Rattle.flow_exits.specs.Arrivals.{IsArrivalRule, AreArrivals};
 ghost use Rattle.point_exits.specs.{Applying.{KeepsDomains, IsAloneIn}, Groups.{AreKnownGroups}};
@@ -43,18 +43,9 @@ pub struct NumberedPoint<'a> {
 }
 
 impl Arrivals {
-    ghost use Rattle.std.specs.Prelude.{◌≡◌, ◌<◌, [], length, slice_index_or, IfOk, OnOk, IfSome};
+    ghost use Rattle.std.specs.Prelude.{◌<◌, IfOk, OnOk, IfSome};
     ghost use Rattle.osek_standard.specs.{Apps.{source_count}, Points.{IsPoint}};
     ghost use Rattle.point_exits.specs.Arrivals.{AreKnownArrivals, AreArrivalsAt, IsOver};
-
-    /// None were asked for yet.
-    pub fn new(alloc: Global) -> Arrivals
-        ensures { result.known ≡ [] }
-    {
-        Arrivals {
-            known: Seq::new(alloc),
-        }
-    }
 
     /// The place of the rules of a point. There is none where no routine begins.
     pub fn find(&mut self, alloc: Global, app: &App, point: Point) -> Result<Option<usize>, Memory>
@@ -123,14 +114,6 @@ impl Arrivals {
         })?;
         Ok(self.known.len() - 1)
     }
-
-    /// The rules at a place.
-    pub fn at(&self, place: usize) -> &Seq<Rule>
-        requires { place < length self.now.known }
-        ensures { (none : ArrivalsOver) → (slice_index_or self.now.known place none).rules ≡ result.now }
-    {
-        &self.known.at(place).rules
-    }
 }
 
 impl<'a> NumberedPoint<'a> {
@@ -163,7 +146,10 @@ impl<'a> NumberedPoint<'a> {
         ensures added { OnOk result (AddsArrivals self.now.app.now self.now.point (plain_entry pool.old self.now.entry.now) pool.old groups.old.items pool.new groups.new.items) }
     {
         match levels.arrivals.find(alloc, self.app, self.point)? {
-            Some(place) => self.push_begun(alloc, levels.arrivals.at(place), pool, groups),
+            Some(place) => {
+                let rules = &levels.arrivals.known.at(place).rules;
+                self.push_begun(alloc, rules, pool, groups)
+            }
             None => {
                 let rules = arrivals(alloc, self.app, self.point)?;
                 self.push_begun(alloc, &rules, pool, groups)
@@ -294,23 +280,15 @@ fn second_alone(
     requires { component < length pool.now }
     ensures { IfOk result (λ set. IfSome set (IsAloneIn pool.now component value.now)) }
 {
-    if !is_second(pool, component, value) {
+    if pool.len(component) < 2 {
+        return Ok(None);
+    }
+    if !pool.value(component, 1).is(value) {
         return Ok(None);
     }
     let mut alone = NumberedSet::new(alloc, pool.domain(component));
     alone.put(1)?;
     Ok(Some(alone))
-}
-
-// whether a component was seen with a value second
-fn is_second(pool: &Pool, component: usize, value: &PartValue) -> bool
-    requires { component < length pool.now }
-    ensures { OnTrue result (IsNumberOf (values_at pool.now component) value.now 1) }
-{
-    if pool.len(component) < 2 {
-        return false;
-    }
-    pool.value(component, 1).is(value)
 }
 
 // adds that by the numbers of what it makes of each

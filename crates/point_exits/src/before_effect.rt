@@ -1,12 +1,12 @@
 //! What an effect changes, and the exits that it has then.
-ghost use Rattle.std.specs.{Prelude.{◌≡◌, ◌∷◌, [], IfOk, OnOk, IfSome, IfNone, ◌<◌, length}, Bool.{OnTrue}};
+ghost use Rattle.std.specs.Prelude.{◌≡◌, ◌∷◌, [], IfOk, OnOk, IfSome, IfNone};
 ghost use Rattle.osek_standard.specs.Points.{IsPoint};
 ghost use Rattle.abstract_state.specs.Domains.{domains_of};
 ghost use Rattle.flow_model.specs.{Effects.{AreAllAllowed, IsKnownStay}, Rules.{HasNone}};
 ghost use Rattle.numbered_sets.specs.{NumberedEntries.{number_domains}, Pools.{IsLonger}, Views.{plain_entry, AreNumbersOf}};
 ghost use Rattle.flow_exits.specs.Leaving.{effect_rule};
 ghost use Rattle.point_exits.specs.{Levels.{AreLevels}, Applying.{KeepsDomains}, Groups.{AreKnownGroups}};
-ghost use Rattle.point_exits.specs.{Leaving.{IsAfter, AddsEffects, AddsInstructions}, Sifting.{HasOutAlone}};
+ghost use Rattle.point_exits.specs.Leaving.{IsAfter, AddsEffects, AddsInstructions};
 ghost use Rattle.flow_effects.specs.Outs.{AreOutIn};
 
 use crate::after_effect::AfterEffect;
@@ -153,20 +153,12 @@ impl<'a> BeforeEffect<'a> {
         let count = self.app.counters.len() + self.app.isrs.len();
         // the sources come last
         let first = self.before.sets.len() - count;
+        let is_in = Test::IsNot(PartValue::OfSource(SourceVal::Out));
         let mut outs = Seq::of(Vec::with_capacity(alloc, count)?);
         for source in 0..count {
-            outs.push(has_out_alone(first + source, pool, self.before))?;
+            let may_be_in = may_pass_alone(&is_in, first + source, pool, self.before);
+            outs.push(!may_be_in)?;
         }
         Ok(outs)
     }
-}
-
-// whether a source's set has no other value than Out
-fn has_out_alone(component: usize, pool: &Pool, entry: &NumberedEntry) -> bool
-    requires set { component < length entry.now.sets }
-    requires values { component < length pool.now }
-    ensures { OnTrue result (HasOutAlone pool.now component entry.now) }
-{
-    let is_in = Test::IsNot(PartValue::OfSource(SourceVal::Out));
-    !may_pass_alone(&is_in, component, pool, entry)
 }

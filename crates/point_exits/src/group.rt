@@ -8,7 +8,7 @@ ghost use Rattle.point_exits.specs.declared.group.Ends.TheVariants as ends;
 use abstract_state::{Domain, Point};
 use flow_model::{Decision, Runner};
 use numbered_sets::{NumberedEntry, NumberedSet, Pool};
-use osek_values::{BlockNo, Memory, Seq, Status};
+use osek_values::{Memory, Seq, Status};
 use std::alloc::Global;
 
 /// The numbers of a component's values with which a step ends at a point.
@@ -69,7 +69,8 @@ pub fn at_blocks(
     let component = runner.component().index();
     let domain = entry.sets.domain(component);
     let count = pool.len(component);
-    let mut places = Vec::from_elem(alloc, 0, block_count(domain))?;
+    let (first, blocks) = blocks_of(domain);
+    let mut places = Vec::from_elem(alloc, 0, blocks)?;
     let mut ends = Seq::new(alloc);
     let mut number = entry.next(component, 0, count);
     while number < count {
@@ -78,7 +79,7 @@ pub fn at_blocks(
             component,
             domain,
             target: runner.at(block),
-            row: row_of(domain, block),
+            row: block.index().saturating_sub(first),
         };
         put_number(alloc, end, number, places.as_mut_slice(), &mut ends)?;
         number = entry.next(component, number + 1, count);
@@ -126,20 +127,12 @@ fn end_at(places: &[usize], row: usize, ends: &Seq<NumberEnd>, target: Point) ->
     None
 }
 
-// how many blocks a task or a routine has
-fn block_count(domain: Domain) -> usize {
+// the first block of the task or the routine, and how many it has
+fn blocks_of(domain: Domain) -> (usize, usize) {
     match domain {
-        Domain::Task { count, .. } | Domain::Source { count, .. } => usize::from(count),
-        Domain::Event | Domain::Alarm => 0,
-    }
-}
-
-// how many blocks of the task or the routine stand before a block
-fn row_of(domain: Domain, block: BlockNo) -> usize {
-    match domain {
-        Domain::Task { first, .. } | Domain::Source { first, .. } => {
-            block.index().saturating_sub(first.index())
+        Domain::Task { first, count, .. } | Domain::Source { first, count, .. } => {
+            (first.index(), usize::from(count))
         }
-        Domain::Event | Domain::Alarm => 0,
+        Domain::Event | Domain::Alarm => (0, 0),
     }
 }

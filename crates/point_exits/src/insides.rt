@@ -15,24 +15,13 @@ pub struct Insides {
 }
 
 impl Insides {
-    ghost use Rattle.std.specs.Prelude.{ℕ, List, ◌≡◌, ◌≢◌, ◌<◌, ◌≤◌, ◌==◌, [], true, length, slice_set, IfOk, OnOk};
+    ghost use Rattle.std.specs.Prelude.{ℕ, List, ◌≡◌, ◌≢◌, ◌<◌, ◌≤◌, ◌==◌, length, slice_set, IfOk, OnOk};
     ghost use Rattle.abstract_state.specs.{declared.value.PartValue.{PartValue}, Domains.{IsWithin}};
     ghost use Rattle.flow_model.specs.declared.change.Update.TheVariants as updates;
     ghost use Rattle.flow_model.specs.Tests.{updated};
     ghost use Rattle.numbered_sets.specs.{NumberedEntries.{numbers_at}, Pools.{Values, seen_at, values_at, domain_at, IsNumberOf, IsLonger, AreValues}};
     ghost use Rattle.numbered_sets.specs.Made.{AreMade};
     ghost use Rattle.point_exits.specs.{Levels.{AreInside}, Settling.{IsSettledEnd, AreSettledEach, AreSettledEnds, IsSettledBy}};
-
-    /// No value was seen yet.
-    pub fn new(alloc: Global, task: TaskNo) -> Insides
-        ensures task { result.task ≡ task }
-        ensures numbers { result.numbers ≡ [] }
-    {
-        Insides {
-            task,
-            numbers: Seq::new(alloc),
-        }
-    }
 
     /// Brings in the values inside of those that came in since the last time.
     pub fn renew(&mut self, pool: &mut Pool) -> Result<(), Memory>

@@ -34,11 +34,11 @@ impl Levels {
             tasks.push(TaskLevels::new(alloc, pool.domain(task)))?;
         }
         let insides = no_insides(alloc, app)?;
-        let arrivals = Arrivals::new(alloc);
+        let known = Seq::new(alloc);
         Ok(Levels {
             tasks,
             insides,
-            arrivals,
+            arrivals: Arrivals { known },
         })
     }
 
@@ -102,7 +102,8 @@ fn no_insides(alloc: Global, app: &App) -> Result<Seq<Insides>, Memory>
     for task in 0..app.tasks.len() {
         let task = TaskNo(task as u8);
         if app.task(task).internal.is_some() {
-            insides.push(Insides::new(alloc, task))?;
+            let numbers = Seq::new(alloc);
+            insides.push(Insides { task, numbers })?;
         }
     }
     Ok(insides)

@@ -25,12 +25,12 @@ pub struct TaskLevels {
 }
 
 impl TaskLevels {
-    ghost use Rattle.std.specs.Prelude.{ℕ, List, ◌≡◌, ◌<◌, ◌≤◌, ◌+◌, ◌^◌, length, slice_index_or, IfOk, OnOk, IfSome, IsTrue, ◌-◌, Contains};
+    ghost use Rattle.std.specs.Prelude.{ℕ, List, ◌≡◌, ◌<◌, ◌≤◌, ◌+◌, ◌^◌, length, slice_index_or, IfOk, OnOk, IfSome, IsTrue, ◌-◌};
     ghost use Rattle.osek_standard.specs.declared.app.App.{App};
     ghost use Rattle.abstract_state.specs.{declared.value.PartValue.{PartValue}, Concrete.{val_of}};
-    ghost use Rattle.numbered_sets.specs.{Numbers.{has_number, meets}, Pools.{values_at, IsNumberOf, Values}, NumberedEntries.{numbers_at}};
+    ghost use Rattle.numbered_sets.specs.{Numbers.{has_number}, Pools.{values_at, IsNumberOf, Values}, NumberedEntries.{numbers_at}};
     ghost use Rattle.point_exits.specs.declared.task_levels.Level.{Level};
-    ghost use Rattle.point_exits.specs.Levels.{IsLiveAt, AreTaskLevels, with_next, AreAllJudged, HasLevelBelow, IsLeastLimit, IsNarrowed};
+    ghost use Rattle.point_exits.specs.Levels.{IsLiveAt, AreTaskLevels, with_next, AreAllJudged, IsLeastLimit, IsNarrowed};
     ghost use Rattle.flow_model.specs.Values.{is_live_value};
     ghost use Rattle.flow_exits.specs.Claims.{is_below};
 
@@ -137,20 +137,12 @@ impl TaskLevels {
             None => {
                 self.dead.insert(number)?;
             }
-            Some(own) => self.put(alloc, own.priority, number)?,
+            Some(own) => {
+                let place = self.place_for(alloc, own.priority)?;
+                self.put_at(place, number)?;
+            }
         }
         self.judged = number + 1;
-        Ok(())
-    }
-
-    // puts the next number in the level of a priority
-    fn put(&mut self, alloc: Global, priority: u32, number: usize) -> Result<(), Memory>
-        requires { number ≡ self.old.judged }
-        ensures levels { OnOk result ((app : App) (u : ℕ) (vs : List PartValue) (v : PartValue) → AreTaskLevels app u vs self.old → IsNumberOf vs v number → IsLiveAt app u priority v → AreTaskLevels app u vs (with_next self.new)) }
-        ensures judged { OnOk result (self.new.judged ≡ self.old.judged) }
-    {
-        let place = self.place_for(alloc, priority)?;
-        self.put_at(place, number)?;
         Ok(())
     }
 
@@ -201,22 +193,13 @@ impl TaskLevels {
         ensures least { (app : App) (vs : List PartValue) → AreTaskLevels app task.0 vs self.now → AreAllJudged self.now (numbers_at entry.now task.0) → IsLeastLimit app task.0 vs (numbers_at entry.now task.0) result }
         ensures none { (numbers_at entry.now task.0).bits ≡ 0 → result ≡ 2 ^ 64 - 1 }
     {
-        if entry.meets(task.index(), &self.dead) {
+        let component = task.index();
+        if entry.meets(component, &self.dead) {
             return 0;
         }
-        self.need_of_live(task, entry)
-    }
-
-    // the same where the task is Live with each of them
-    fn need_of_live(&self, task: TaskNo, entry: &NumberedEntry) -> u64
-        requires { task.0 < length entry.now.sets }
-        ensures least { (level : Level) → Contains self.now.levels level → IsTrue (meets (numbers_at entry.now task.0) level.numbers) → result ≤ level.priority + 1 }
-        ensures enough { (level : Level) → Contains self.now.levels level → IsTrue (meets (numbers_at entry.now task.0) level.numbers) → HasLevelBelow self.now.levels (numbers_at entry.now task.0) result }
-        ensures none { (numbers_at entry.now task.0).bits ≡ 0 → result ≡ 2 ^ 64 - 1 }
-    {
         let mut need = u64::MAX;
         for level in self.levels.as_slice() {
-            if entry.meets(task.index(), &level.numbers) {
+            if entry.meets(component, &level.numbers) {
                 need = need.min(level.limit_above());
             }
         }

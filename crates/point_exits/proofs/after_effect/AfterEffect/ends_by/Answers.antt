@@ -1,13 +1,23 @@
 use Rattle.std.proofs.Common.{◌≡◌, ◌<◌, Some, length, ap, subst, ◌∙◌, arith}
 use Rattle.std.specs.declared.option.Option.{Option}
 use Rattle.osek_values.specs.declared.numbers.TaskNo.{TaskNo}
+use Rattle.abstract_state.specs.Components.{component_count}
 use Rattle.abstract_state.proofs.ComponentLaws.{task_counted}
 use Rattle.flow_model.specs.declared.case.Decision.TheVariants as decision
+use Rattle.flow_model.specs.{Effects.{IsKnownStay}, Runners.{component_of}}
 use Rattle.point_exits.specs.Deciding.{IsKnownDecision}
+use Rattle.point_exits.proofs.ExitLaws.{runner_counted}
 use Rattle.point_exits.proofs.after_effect.AfterEffect.ends_by.Goals as goal
 
 pub at_blocks-requires-clause-known : goal.at_blocks-requires-clause-known
 at_blocks-requires-clause-known c =
+    let app = c.args.self.now.app.now in
+    let r = c.in-AtBlockOf.runner in
+    let counted : component_of r < component_count app = runner_counted app r (subst (IsKnownStay app) c.in-AtBlockOf.is c.requires.decidable.stay) in
+    omega (arith, counted, c.requires.whole.size)
+
+pub at_blocks-requires-in-To-Some-clause-known : goal.at_blocks-requires-in-To-Some-clause-known
+at_blocks-requires-in-To-Some-clause-known c =
     let app = c.args.self.now.app.now in
     let t = c.in-To-Some.task in
     let some : c.in-To-Some.field-0 ≡ Some t = rw c.in-To-Some.is at c.in-To-Some.field-0-is in

@@ -1,7 +1,7 @@
-use Rattle.std.proofs.Common.{ℕ, subst}
+use Rattle.std.proofs.Common.{ℕ, ap, subst}
 use Rattle.std.specs.{Prelude.{IfSome}, declared.option.Option.{Option}}
 use Rattle.std.proofs.lemmas.Result.{on_ok_weaker}
-use Rattle.point_exits.specs.Arrivals.{AreArrivalsAt}
+use Rattle.point_exits.specs.{declared.arrivals.ArrivalsOver.{ArrivalsOver}, Arrivals.{AreArrivalsAt}}
 use Rattle.point_exits.proofs.{KnownArrivals.{rules_at}, LevelLaws.{levels_keeping}}
 use Rattle.point_exits.proofs.arrivals.NumberedPoint.push_arrivals.Goals as goal
 
@@ -11,7 +11,7 @@ push_begun-requires-clause-rules c =
     let p = c.args.self.now.point in
     let known = c.find.new.self.known in
     let at : AreArrivalsAt app p known c.in-Some.place = subst (λ (o : Option ℕ). IfSome o (AreArrivalsAt app p known)) c.in-Some.is c.in_ok-place.ensures.found in
-    rules_at app p known c.in-Some.place c.at.result.now at c.at.ensures
+    rules_at app p known c.in-Some.place c.at.result.now.rules at (λ none. ap (λ (x : ArrivalsOver). x.rules) (c.at.ensures.item none))
 
 pub returns-in-Some-clause-levels : goal.returns-in-Some-clause-levels
 returns-in-Some-clause-levels c =

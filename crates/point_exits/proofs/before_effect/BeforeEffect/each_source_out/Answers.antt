@@ -1,4 +1,4 @@
-use Rattle.std.proofs.Common.{◌≡◌, ℕ, ◌+◌, ◌-◌, Bool, List, [], ◌∷◌, length, sym, ap, subst, ◌∙◌, arith}
+use Rattle.std.proofs.Common.{◌≡◌, ℕ, ◌+◌, ◌-◌, Bool, not, List, [], ◌∷◌, length, sym, ap, subst, ◌∙◌, arith}
 use Rattle.std.proofs.lemmas.{Bool.{OnTrue_at}, List.{length-append}}
 use Rattle.osek_values.specs.Numbers.{source_no}
 use Rattle.abstract_state.specs.Components.{component_number}
@@ -8,7 +8,7 @@ use Rattle.abstract_state.specs.declared.value.SourceVal.TheVariants as source_v
 use Rattle.numbered_sets.specs.Views.{plain_entry}
 use Rattle.flow_effects.specs.Outs.{AreOutIn}
 use Rattle.flow_exits.proofs.SourceNumbers.{number_behind}
-use Rattle.point_exits.proofs.{EntryCounts.{numbers_counted, pool_counted}, OutLaws.{none_out, out_alone, out_more, sources_last}}
+use Rattle.point_exits.proofs.{EntryCounts.{numbers_counted, pool_counted}, OutLaws.{none_out, out_if, out_alone, out_more, sources_last}}
 use Rattle.point_exits.proofs.before_effect.BeforeEffect.each_source_out.Goals as goal
 
 pub overflow_sub-first : goal.overflow_sub-first
@@ -16,14 +16,14 @@ overflow_sub-first c =
     let app = c.args.self.now.app.now in
     omega (arith, c.len.ensures, c.len-2.ensures, c.len-3.ensures, numbers_counted app c.args.self.now.before.now c.requires.domains, sources_last app)
 
-pub has_out_alone-requires-clause-set : goal.has_out_alone-requires-clause-set
-has_out_alone-requires-clause-set c =
+pub may_pass_alone-may_be_in-requires-clause-set : goal.may_pass_alone-may_be_in-requires-clause-set
+may_pass_alone-may_be_in-requires-clause-set c =
     let app = c.args.self.now.app.now in
     let sets = numbers_counted app c.args.self.now.before.now c.requires.domains in
     omega (arith, c.len.ensures, c.len-2.ensures, c.len-3.ensures, c.loop-source-test.true, sets, sources_last app)
 
-pub has_out_alone-requires-clause-values : goal.has_out_alone-requires-clause-values
-has_out_alone-requires-clause-values c =
+pub may_pass_alone-may_be_in-requires-clause-values : goal.may_pass_alone-may_be_in-requires-clause-values
+may_pass_alone-may_be_in-requires-clause-values c =
     let app = c.args.self.now.app.now in
     let entry = c.args.self.now.before.now in
     let pool = pool_counted app c.args.pool.now entry c.requires.domains c.requires.numbers.domains in
@@ -45,7 +45,8 @@ loop-source-preserved c =
     let plain = plain_entry pool entry in
     let k = c.loop-source.source in
     let outs = c.loop-source.outs in
-    let is_out = c.has_out_alone.result in
+    let may_be_in = c.may_pass_alone-may_be_in.result in
+    let is_out = not may_be_in in
     let sets = numbers_counted app entry c.requires.domains in
     let last = sources_last app in
     let behind = number_behind app k in
@@ -55,5 +56,5 @@ loop-source-preserved c =
       size = (let long = ap (λ (xs : List Bool). length xs) c.in_ok-push.ensures.ok ∙ length-append outs (is_out ∷ []) in omega (arith, long, c.loop-source.invariant.size));
       out = subst (λ (xs : List Bool). AreOutIn app xs plain) (sym c.in_ok-push.ensures.ok)
           (out_more app plain outs k is_out c.loop-source.invariant.size c.loop-source.invariant.out (λ e value within.
-          subst (λ (n : ℕ). value n ≡ OfSource source_val.Out) place (out_alone app pool entry c.requires.domains z (OnTrue_at e c.has_out_alone.ensures) value within)));
+          subst (λ (n : ℕ). value n ≡ OfSource source_val.Out) place (out_alone app pool entry c.requires.domains z (OnTrue_at e (out_if pool z entry may_be_in c.may_pass_alone-may_be_in.ensures)) value within)));
     }

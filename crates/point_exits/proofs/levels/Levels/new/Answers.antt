@@ -12,5 +12,5 @@ returns c =
     let app = c.args.app.now in
     let pool = c.args.pool.now in
     let insides = c.in_ok-insides.insides in
-    all_levels app pool (record { tasks = c.loop-task.tasks; insides = insides; arrivals = c.new-arrivals.result }) c.loop-task.task c.loop-task.invariant
-    (omega (arith, c.loop-task-test.false, c.loop-task.auto.task-end, c.len-task-end.ensures)) (insides_begun app pool insides c.in_ok-insides.ensures) c.new-arrivals.ensures
+    all_levels app pool (record { tasks = c.loop-task.tasks; insides = insides; arrivals = record { known = c.new-known.result } }) c.loop-task.task c.loop-task.invariant
+    (omega (arith, c.loop-task-test.false, c.loop-task.auto.task-end, c.len-task-end.ensures)) (insides_begun app pool insides c.in_ok-insides.ensures) c.new-known.ensures
