@@ -5,8 +5,8 @@ ghost use Rattle.abstract_state.specs.Domains.{domains, domains_of};
 ghost use Rattle.flow_model.specs.{Effects.{AreAllAllowed, IsKnownStay}, Rules.{Covering, Exact, Foresees}};
 ghost use Rattle.numbered_sets.specs.{NumberedEntries.{number_domains}, Pools.{IsLonger}, Views.{plain_entry, AreNumbersOf}};
 ghost use Rattle.flow_exits.specs.Leaving.{effect_rule};
-ghost use Rattle.flow_rules.specs.{Allowed.{IsAllowedPart}, Instructions.{AddsInstructionRules}};
-ghost use Rattle.point_exits.specs.{Applying.{KeepsDomains}, Levels.{AreLevels}};
+ghost use Rattle.flow_rules.specs.Instructions.{AddsInstructionRules};
+ghost use Rattle.point_exits.specs.{Applying.{KeepsDomains}, Levels.{AreLevels}, OneProof.{SameDomains-prop}};
 ghost use Rattle.flow_rules.specs.Ruling.{outcomes_by, AddsRulesOf};
 ghost use Rattle.point_exits.specs.Groups.{exit_at as exit_of_group, exits_of, all_exits, IsKnownGroup, AreKnownGroups};
 
@@ -49,22 +49,6 @@ pub fn rules(
     }
 }
 
-// the values of an entry that well-formed states have at a point
-fn allowed_values(
-    alloc: Global,
-    app: &App,
-    point: Point,
-    pool: &Pool,
-    entry: &NumberedEntry,
-) -> Result<PlainEntry, Memory>
-    requires numbers { AreNumbersOf pool.now entry.now }
-    requires domains { number_domains entry.now ≡ domains_of app.now }
-    ensures { IfOk result (IsAllowedPart app.now point (plain_entry pool.now entry.now)) }
-{
-    let plain = plain(alloc, pool, entry)?;
-    allowed_part(alloc, app, point, &plain)
-}
-
 // adds the rules of the instruction of a task's or a routine's point
 fn add_instructions(
     alloc: Global,
@@ -80,8 +64,9 @@ fn add_instructions(
     ensures { OnOk result (AddsInstructionRules app.now point (plain_entry pool.now entry.now) rules.old rules.new) }
 {
     pool.are_values();
+    let whole = plain(alloc, pool, entry)?;
     // of other values an effect might make some that no state has
-    let from = allowed_values(alloc, app, point, pool, entry)?;
+    let from = allowed_part(alloc, app, point, &whole)?;
     let mut grown = pool.copy(alloc)?;
     let numbers = numbered(alloc, &mut grown, &from)?;
     let mut levels = Levels::new(alloc, app, &grown)?;
@@ -103,6 +88,8 @@ struct Ruled<'a> {
     app: &'a App,
     from: &'a PlainEntry,
     numbers: &'a NumberedEntry,
+    ghost alike: { number_domains numbers.now ≡ domains_of app.now } by { SameDomains-prop (number_domains numbers.now) (domains_of app.now) },
+    ghost from_alike: { domains from.now ≡ domains_of app.now } by { SameDomains-prop (domains from.now) (domains_of app.now) },
 }
 
 impl<'a> Ruled<'a> {
@@ -117,7 +104,6 @@ impl<'a> Ruled<'a> {
     ) -> Result<(), Memory>
         requires plain { plain_entry pool.old self.now.numbers.now ≡ self.now.from.now }
         requires numbers { AreNumbersOf pool.old self.now.numbers.now }
-        requires domains { number_domains self.now.numbers.now ≡ domains_of self.now.app.now }
         requires stays { IsKnownStay self.now.app.now effect.now.leaving.stay }
         requires kept { KeepsDomains (effect_rule effect.now) (plain_entry pool.old self.now.numbers.now) }
         requires levels { AreLevels self.now.app.now pool.old levels.old }
@@ -134,60 +120,56 @@ impl<'a> Ruled<'a> {
         };
         // the conditions are on what isn't settled yet: a task may come in from values with which another thing is decided
         let mut groups = Vec::new(alloc);
-        AfterEffect {
+        let values = AfterEffect {
             app: self.app,
             pool: &*pool,
             levels: &*levels,
             leaving: effect.leaving,
             after,
-        }
-        .push_decided(alloc, &mut groups)?;
+        };
+        values.push_decided(alloc, &mut groups)?;
         let exits = exits(alloc, pool, groups.as_slice())?;
         let changes = effect.changes.as_slice();
-        let outcomes = outcomes(alloc, self.app, changes, self.from, exits.as_slice())?;
+        let outcomes = self.outcomes(alloc, changes, exits.as_slice())?;
         add_rules(alloc, self.app, effect, outcomes.as_slice(), rules)
     }
-}
 
-// what the scheduler does, one case for each exit, by the values before the changes
-fn outcomes(
-    alloc: Global,
-    app: &App,
-    changes: &[Change],
-    from: &PlainEntry,
-    exits: &[Exit],
-) -> Result<Seq<OutcomeCase>, Memory>
-    requires { domains from.now ≡ domains_of app.now }
-    ensures { IfOk result (λ cases. cases ≡ flat_map (outcomes_by app.now changes.now from.now) exits.now) }
-{
-    let mut cases = Seq::new(alloc);
-    for exit in exits {
-        push_outcome(alloc, app, changes, from, exit, &mut cases)?;
+    // what the scheduler does, one case for each exit, by the values before the changes
+    fn outcomes(
+        &self,
+        alloc: Global,
+        changes: &[Change],
+        exits: &[Exit],
+    ) -> Result<Seq<OutcomeCase>, Memory>
+        ensures { IfOk result (λ cases. cases ≡ flat_map (outcomes_by self.now.app.now changes.now self.now.from.now) exits.now) }
+    {
+        let mut cases = Seq::new(alloc);
+        for exit in exits {
+            self.push_outcome(alloc, changes, exit, &mut cases)?;
+        }
+        Ok(cases)
     }
-    Ok(cases)
-}
 
-fn push_outcome(
-    alloc: Global,
-    app: &App,
-    changes: &[Change],
-    from: &PlainEntry,
-    exit: &Exit,
-    cases: &mut Seq<OutcomeCase>,
-) -> Result<(), Memory>
-    requires { domains from.now ≡ domains_of app.now }
-    ensures { OnOk result (cases.new ≡ cases.old ++ outcomes_by app.now changes.now from.now exit.now) }
-{
-    let Some(decision) = exit.decision else {
-        return Ok(());
-    };
-    let conditions = barred(alloc, app, changes, from, &exit.entry)?;
-    cases.push(OutcomeCase {
-        conditions,
-        decision,
-        target: exit.target,
-    })?;
-    Ok(())
+    fn push_outcome(
+        &self,
+        alloc: Global,
+        changes: &[Change],
+        exit: &Exit,
+        cases: &mut Seq<OutcomeCase>,
+    ) -> Result<(), Memory>
+        ensures { OnOk result (cases.new ≡ cases.old ++ outcomes_by self.now.app.now changes.now self.now.from.now exit.now) }
+    {
+        let Some(decision) = exit.decision else {
+            return Ok(());
+        };
+        let conditions = barred(alloc, self.app, changes, self.from, &exit.entry)?;
+        cases.push(OutcomeCase {
+            conditions,
+            decision,
+            target: exit.target,
+        })?;
+        Ok(())
+    }
 }
 
 // the exits that groups stand for

@@ -9,12 +9,12 @@ use Rattle.abstract_state.specs.{declared.value.PartValue.{PartValue}, Concrete.
 use Rattle.abstract_state.proofs.ComponentLaws.{task_counted}
 use Rattle.flow_model.specs.declared.case.Decision.{Decision}
 use Rattle.flow_model.specs.declared.case.Decision.TheVariants as decision
-use Rattle.flow_model.specs.{Values.{is_live_value}, Effects.{AreIn}, declared.case.Leaving.{Leaving}}
+use Rattle.flow_model.specs.{Values.{is_live_value}, Effects.{AreIn}, Scheduling.{Decides}, declared.case.Leaving.{Leaving}}
 use Rattle.numbered_sets.specs.{declared.numbered_entry.NumberedEntry.{NumberedEntry}, Pools.{Values, values_at}, Views.{plain_entry, AreNumbersOf}}
 use Rattle.flow_exits.specs.declared.exit.Exit.{Exit}
 use Rattle.point_exits.specs.{declared.{task_levels.{Level.{Level}, TaskLevels.{TaskLevels}}, levels.Levels.{Levels}}, Levels.{AreTaskLevels, AreAllLevels}}
-use Rattle.point_exits.specs.{declared.group.ExitGroup.{ExitGroup}, Groups.{exits_of, all_exits}, Deciding.{DecidesSo, HasUnsettled, AddsFor, IsIt, IsOfLevel, IsAtLevel, IsAtFirst, IsWinnerBelow}}
-use Rattle.point_exits.proofs.{NumberLaws.{member_number}, OwnLevels.{own_levels, own_judged}}
+use Rattle.point_exits.specs.{declared.group.ExitGroup.{ExitGroup}, Groups.{exits_of, all_exits}, Deciding.{HasUnsettled, AddsFor, IsIt, IsOfLevel, IsAtLevel, IsAtFirst, IsWinnerBelow}}
+use Rattle.point_exits.proofs.{FoundLevels.{found_place}, NumberLaws.{member_number}, OwnLevels.{own_levels, own_judged}}
 
 module _ (app : App) (pool : List Values) (leaving : Leaving) where
   -- an exit is among more
@@ -22,7 +22,7 @@ module _ (app : App) (pool : List Values) (leaving : Leaving) where
   still some more d value onward h = record { exit = h.exit; listed = onward h.exit h.listed; decision = h.decision; status = h.status; within = h.within; target = h.target }
 
   pub nothing_more : (after : NumberedEntry) (P : (ℕ → PartValue) → Decision → Type 0) (gs : List ExitGroup)
-      → ((value : ℕ → PartValue) (d : Decision) → AreIn app (plain_entry pool after) value → DecidesSo app leaving value d → P value d → ⊥) → AddsFor app pool leaving after P gs gs
+      → ((value : ℕ → PartValue) (d : Decision) → AreIn app (plain_entry pool after) value → Decides app value leaving d → P value d → ⊥) → AddsFor app pool leaving after P gs gs
   nothing_more after P gs never = record {
     more = [];
     added = sym (append-nil gs);
@@ -35,7 +35,7 @@ module _ (app : App) (pool : List Values) (leaving : Leaving) where
   joined some more = flat_map-append (exits_of pool) some more
 
   pub then_more : (after : NumberedEntry) (P Q R : (ℕ → PartValue) → Decision → Type 0)
-      → ((value : ℕ → PartValue) (d : Decision) → AreIn app (plain_entry pool after) value → DecidesSo app leaving value d → R value d → P value d ⊎ Q value d)
+      → ((value : ℕ → PartValue) (d : Decision) → AreIn app (plain_entry pool after) value → Decides app value leaving d → R value d → P value d ⊎ Q value d)
       → (a b c : List ExitGroup) → AddsFor app pool leaving after P a b → AddsFor app pool leaving after Q b c → AddsFor app pool leaving after R a c
   then_more after P Q R either a b c x y =
       let first : List Exit = all_exits pool x.more in
@@ -53,7 +53,7 @@ module _ (app : App) (pool : List Values) (leaving : Leaving) where
 
   -- of a part of the values, which has all those with another property
   pub of_part : (after part : NumberedEntry) (P Q : (ℕ → PartValue) → Decision → Type 0) → ((value : ℕ → PartValue) → AreIn app (plain_entry pool part) value → AreIn app (plain_entry pool after) value)
-      → ((value : ℕ → PartValue) (d : Decision) → AreIn app (plain_entry pool after) value → DecidesSo app leaving value d → Q value d → AreIn app (plain_entry pool part) value × P value d)
+      → ((value : ℕ → PartValue) (d : Decision) → AreIn app (plain_entry pool after) value → Decides app value leaving d → Q value d → AreIn app (plain_entry pool part) value × P value d)
       → (a b : List ExitGroup) → AddsFor app pool leaving part P a b → AddsFor app pool leaving after Q a b
   of_part after part P Q within has a b x = record {
     more = x.more;
@@ -74,7 +74,7 @@ module _ (app : App) (pool : List Values) (leaving : Leaving) where
   }
 
   pub by_property : (after : NumberedEntry) (P Q : (ℕ → PartValue) → Decision → Type 0)
-      → ((value : ℕ → PartValue) (d : Decision) → AreIn app (plain_entry pool after) value → DecidesSo app leaving value d → Q value d → P value d)
+      → ((value : ℕ → PartValue) (d : Decision) → AreIn app (plain_entry pool after) value → Decides app value leaving d → Q value d → P value d)
       → (a b : List ExitGroup) → AddsFor app pool leaving after P a b → AddsFor app pool leaving after Q a b
   by_property after P Q has = of_part after after P Q (λ value h. h) (λ value d h decides q. (h, has value d h decides q))
 
@@ -101,7 +101,7 @@ module _ (app : App) (pool : List Values) (leaving : Leaving) where
     level_there d e value same within live =
         let x = member_number pool entry t (value t) (within t (task_counted app t known)) in
         let lt : x.number < own.judged = (let below = x.is.known in let judged = own_judged app pool levels t known all own is in omega (arith, below, judged)) in
-        elim (its.whole x.number lt) [
+        elim (found_place own.dead own.levels x.number (its.whole x.number lt)) [
           | inl dead ↦
               (let off : is_live_value (val_of (value t)) ≡ false = ap (λ (v : PartValue). is_live_value (val_of v)) (sym (x.is.is (value t))) ∙ (its.dead x.number (value t) dead).1 in
               absurd (cc))
@@ -114,10 +114,10 @@ module _ (app : App) (pool : List Values) (leaving : Leaving) where
           })
         ]
 
-    pub all_levels : (d : Decision) (k : ℕ) → length own.levels ≤ k → ((value : ℕ → PartValue) → AreIn app (plain_entry pool entry) value → DecidesSo app leaving value d → IsTrue (is_live_value (val_of (value t))))
+    pub all_levels : (d : Decision) (k : ℕ) → length own.levels ≤ k → ((value : ℕ → PartValue) → AreIn app (plain_entry pool entry) value → Decides app value leaving d → IsTrue (is_live_value (val_of (value t))))
         → (a b : List ExitGroup) → AddsFor app pool leaving entry (IsAtFirst pool entry t own.levels k d) a b → AddsFor app pool leaving entry (IsIt d) a b
     all_levels d k le lives = by_property entry (IsAtFirst pool entry t own.levels k d) (IsIt d) (λ value e within decides same.
-        (let first = level_there d e value same within (lives value within (subst (DecidesSo app leaving value) same decides)) in
+        (let first = level_there d e value same within (lives value within (subst (Decides app value leaving) same decides)) in
         record { decision = first.decision; place = first.place; known = (let lt = first.known in omega (arith, lt, le)); level = first.level }))
 
   -- ---- one task after another

@@ -1,7 +1,7 @@
 -- Groups of a claim: with the values under its limits the scheduler decides so, and back.
 use Rattle.std.proofs.Common.{◌≡◌, ◌≢◌, ℕ, ◌<◌, ◌≤◌, Bool, true, false, ◌&&◌, List, [], length, set, refl, sym, ap, ap₂, subst, ◌∙◌, arith, IsTrue, Some, None, IfSome}
 use Rattle.std.specs.{Prelude.{slice_index_or}, declared.option.Option.{Option}}
-use Rattle.std.proofs.lemmas.Bool.{eq-eqb, and_parts}
+use Rattle.std.proofs.{Math.Logic.{∥∥₁_elim}, lemmas.Bool.{eq-eqb, and_parts}}
 use Rattle.osek_values.specs.declared.numbers.TaskNo.{TaskNo}
 use Rattle.osek_standard.specs.{declared.app.App.{App}, States.{is_that_task}}
 use Rattle.abstract_state.specs.{declared.value.PartValue.{PartValue, TheVariants.{OfAlarm}}, Components.{component_count}, Concrete.{val_of}}
@@ -9,7 +9,7 @@ use Rattle.abstract_state.proofs.ComponentLaws.{task_counted}
 use Rattle.flow_model.specs.declared.case.{Asked.{Asked}, Decision.{Decision}}
 use Rattle.flow_model.specs.declared.case.Asked.TheVariants as asked
 use Rattle.flow_model.specs.declared.case.Decision.TheVariants as decision
-use Rattle.flow_model.specs.{Values.{is_live_value}, Effects.{AreIn}, Scheduling.{task_priority, IsLiveTask, IsBestTask, NoneLive, NoneAbove, DecidesBy, may_tie}}
+use Rattle.flow_model.specs.{Values.{is_live_value}, Effects.{AreIn}, Scheduling.{task_priority, IsLiveTask, IsBestTask, NoneLive, NoneAbove, Decides, DecidesBy, may_tie}}
 use Rattle.flow_model.specs.declared.case.Leaving.{Leaving}
 use Rattle.numbered_sets.specs.{declared.numbered_entry.NumberedEntry.{NumberedEntry}, Numbers.{Numbers, has_number, kept_numbers, meets}, NumberedEntries.{numbers_at, AreFilled}}
 use Rattle.numbered_sets.specs.{Pools.{Values, values_at, IsNumberOf}, Views.{plain_entry}}
@@ -19,7 +19,7 @@ use Rattle.flow_exits.specs.declared.claim.Claim.TheVariants as claim
 use Rattle.flow_exits.specs.{Claims.{limit_of, AreUnder}, Outcomes.{IsVacant, idle_decision}}
 use Rattle.flow_exits.proofs.ClaimLaws.{that_task, nobody_means, nobody_passes, keeps_means, keeps_passes, gets_means, gets_above, gets_passes}
 use Rattle.point_exits.specs.{declared.{task_levels.{Level.{Level}, TaskLevels.{TaskLevels}}, levels.Levels.{Levels}, group.ExitGroup.{ExitGroup}}, Levels.{IsLiveAt, AreAllLevels}}
-use Rattle.point_exits.specs.{Narrowing.{IsLeft, is_under_limit, NeverUnder}, Deciding.{DecidesSo, AddsFor, IsWhole, IsIt, IsOfLevel, IsAtLevel, IsLevelOf, IsAlive, IsAsked, IsGroupFor, IsClaimed, IsCut, IsKnownDecision, NeverAt, over_of}}
+use Rattle.point_exits.specs.{Narrowing.{IsLeft, is_under_limit, NeverUnder}, Deciding.{AddsFor, IsWhole, IsIt, IsOfLevel, IsAtLevel, IsLevelOf, IsAlive, IsAsked, IsGroupFor, IsClaimed, IsCut, IsKnownDecision, NeverAt, over_of}, OneProof.{IsLiveAt-prop}}
 use Rattle.point_exits.proofs.LeftLaws.{tasks_counted, as_many_left, known_left, within_left, no_limit, under_left, left_under}
 use Rattle.point_exits.proofs.{KeptLaws.{as_many_kept, known_kept, filled_kept, number_kept, within_kept, in_kept}, AddingLaws.{nothing_more}}
 
@@ -28,8 +28,9 @@ use Rattle.point_exits.proofs.{KeptLaws.{as_many_kept, known_kept, filled_kept, 
 module _ (app : App) (pool : List Values) (levels : Levels) (all : AreAllLevels app pool levels) (t : ℕ) (known : t < length app.tasks) (level : Level) (of : IsLevelOf levels t level) where
   level_value : (n : ℕ) (v : PartValue) → IsTrue (has_number level.numbers n) → IsNumberOf (values_at pool t) v n → IsLiveAt app t level.priority v
   level_value n v has is =
-      let parts = (all.are.each t none known).levels level (of none) n v has in
-      subst (IsLiveAt app t level.priority) (is.is v) parts.1
+      ∥∥₁_elim (of none) (IsLiveAt-prop app t level.priority v) (λ listed.
+      let parts = (all.are.each t none known).levels level listed n v has in
+      subst (IsLiveAt app t level.priority) (is.is v) parts.1)
     where
       none : TaskLevels
       none = record { judged = 0; dead = level.numbers; levels = [] }
@@ -120,10 +121,10 @@ module _ (app : App) (pool : List Values) (levels : Levels) (all : AreAllLevels 
   abbrev keeps : Claim
   keeps = claim.Keeps t level.priority
 
-  none_above : (value : ℕ → PartValue) (e : Decision) → e ≡ decision.Keep → DecidesSo app leaving value e → NoneAbove app value t.0
-  none_above value e same decides = subst (λ (a : Asked). DecidesBy app value leaving.last a decision.Keep) running (subst (DecidesSo app leaving value) same decides)
+  none_above : (value : ℕ → PartValue) (e : Decision) → e ≡ decision.Keep → Decides app value leaving e → NoneAbove app value t.0
+  none_above value e same decides = subst (λ (a : Asked). DecidesBy app value leaving.last a decision.Keep) running (subst (Decides app value leaving) same decides)
 
-  level_under : (value : ℕ → PartValue) (e : Decision) → DecidesSo app leaving value e → IsAtLevel pool entry t.0 level decision.Keep value e → AreUnder app keeps (length app.tasks) value
+  level_under : (value : ℕ → PartValue) (e : Decision) → Decides app value leaving e → IsAtLevel pool entry t.0 level decision.Keep value e → AreUnder app keeps (length app.tasks) value
   level_under value e decides at =
       keeps_passes app value t level.priority (level_value app pool levels all t.0 known level of at.1.number (value t.0) at.1.among at.1.is).priority (none_above value e at.0 decides)
 
@@ -192,7 +193,7 @@ running_loses app value last a w that h =
 
 pub no_running_winner : (app : App) (pool : List Values) (leaving : Leaving) (w : TaskNo) (entry : NumberedEntry) (gs : List ExitGroup) → is_that_task (over_of leaving.asked) w.0 ≡ true → AddsFor app pool leaving entry (IsIt (decision.To (Some w))) gs gs
 no_running_winner app pool leaving w entry gs that = nothing_more app pool leaving entry (IsIt (decision.To (Some w))) gs
-    (λ value e within decides same. running_loses app value leaving.last leaving.asked w that (subst (DecidesSo app leaving value) same decides))
+    (λ value e within decides same. running_loses app value leaving.last leaving.asked w that (subst (Decides app value leaving) same decides))
 
 module _ (app : App) (pool : List Values) (levels : Levels) (all : AreAllLevels app pool levels) (leaving : Leaving) (w : TaskNo) (known : w.0 < length app.tasks) (other : is_that_task (over_of leaving.asked) w.0 ≡ false)
     (level : Level) (of : IsLevelOf levels w.0 level) (entry : NumberedEntry) where
@@ -205,10 +206,10 @@ module _ (app : App) (pool : List Values) (levels : Levels) (all : AreAllLevels 
   abbrev to_it : Decision
   to_it = decision.To (Some w)
 
-  wins : (value : ℕ → PartValue) (e : Decision) → e ≡ to_it → DecidesSo app leaving value e → Wins app value leaving.last w over
-  wins value e same decides = winner_of app value leaving.last w leaving.asked (subst (DecidesSo app leaving value) same decides)
+  wins : (value : ℕ → PartValue) (e : Decision) → e ≡ to_it → Decides app value leaving e → Wins app value leaving.last w over
+  wins value e same decides = winner_of app value leaving.last w leaving.asked (subst (Decides app value leaving) same decides)
 
-  under_it : (value : ℕ → PartValue) (e : Decision) → DecidesSo app leaving value e → IsAtLevel pool entry w.0 level to_it value e → AreUnder app gets (length app.tasks) value
+  under_it : (value : ℕ → PartValue) (e : Decision) → Decides app value leaving e → IsAtLevel pool entry w.0 level to_it value e → AreUnder app gets (length app.tasks) value
   under_it value e decides at =
       let won = wins value e at.0 decides in
       let its = level_value app pool levels all w.0 known level of at.1.number (value w.0) at.1.among at.1.is in
@@ -236,11 +237,11 @@ module _ (app : App) (pool : List Values) (levels : Levels) (all : AreAllLevels 
   no_winner never gs = nothing_more app pool leaving entry (IsAtLevel pool entry w.0 level to_it) gs (λ value e within decides at. never value within (under_it value e decides at) at.1)
 
 -- a task that gets the processor is Live
-pub winner_live : (app : App) (leaving : Leaving) (w : TaskNo) (value : ℕ → PartValue) → DecidesSo app leaving value (decision.To (Some w)) → IsTrue (is_live_value (val_of (value w.0)))
+pub winner_live : (app : App) (leaving : Leaving) (w : TaskNo) (value : ℕ → PartValue) → Decides app value leaving (decision.To (Some w)) → IsTrue (is_live_value (val_of (value w.0)))
 winner_live app leaving w value h = (winner_of app value leaving.last w leaving.asked h).best.is.live
 
 -- and so is one that keeps it
-pub keeper_live : (app : App) (leaving : Leaving) (t : TaskNo) (value : ℕ → PartValue) → leaving.asked ≡ asked.Maybe t → DecidesSo app leaving value decision.Keep → IsTrue (is_live_value (val_of (value t.0)))
+pub keeper_live : (app : App) (leaving : Leaving) (t : TaskNo) (value : ℕ → PartValue) → leaving.asked ≡ asked.Maybe t → Decides app value leaving decision.Keep → IsTrue (is_live_value (val_of (value t.0)))
 keeper_live app leaving t value running h =
     let kept : NoneAbove app value t.0 = subst (λ (a : Asked). DecidesBy app value leaving.last a decision.Keep) running h in
     kept.running.live
@@ -269,8 +270,8 @@ module _ (app : App) (pool : List Values) (leaving : Leaving) (vacant : IsVacant
   abbrev idle : Decision
   idle = idle_decision leaving.asked
 
-  nobody_under : (value : ℕ → PartValue) (e : Decision) → DecidesSo app leaving value e → e ≡ idle → AreUnder app claim.Nobody (length app.tasks) value
-  nobody_under value e decides same = nobody_passes app value (none_live app value leaving.last leaving.asked vacant (subst (DecidesSo app leaving value) same decides))
+  nobody_under : (value : ℕ → PartValue) (e : Decision) → Decides app value leaving e → e ≡ idle → AreUnder app claim.Nobody (length app.tasks) value
+  nobody_under value e decides same = nobody_passes app value (none_live app value leaving.last leaving.asked vacant (subst (Decides app value leaving) same decides))
 
   pub nobody_group : (left : NumberedEntry) → IsLeft (is_under_limit app claim.Nobody (length app.tasks)) pool entry left → IsGroupFor app pool leaving entry (IsIt idle) idle left
   nobody_group left h = record {

@@ -1,7 +1,7 @@
 -- The values inside of the tasks that name an INTERNAL resource, as more are brought in.
 use Rattle.std.proofs.Common.{◌≡◌, ◌≢◌, ℕ, ◌+◌, ◌<◌, ◌≤◌, Bool, true, false, List, [], ◌∷◌, ◌++◌, length, get_or, set, cond, refl, sym, ap, ap₂, subst, ◌∙◌, inl, inr, arith, IsTrue, get_or-set_same, get_or-set_other}
 use Rattle.std.specs.{Prelude.{is_some}, List.{list_any}}
-use Rattle.std.proofs.{Math.{ListN.{get_or-map}, Seq.{get_or-append_seam}}, lemmas.Bool.{cases_eq, cases_lt, false≢true}}
+use Rattle.std.proofs.{Math.{ListN.{get_or-map}, Logic.{∥∥₁_map}, Seq.{get_or-append_seam}}, lemmas.Bool.{cases_eq, cases_lt, false≢true}}
 use Rattle.std.proofs.lemmas.List.{length-append, length-map, length-set, get_or_append_left, get_or_default, map-append, map-set, set-get_or, Elements.{All-get_or, Contains-append_left, Contains-append_right, Contains-push_cases}}
 use Rattle.osek_values.specs.{Numbers.{task_no}, declared.numbers.TaskNo.{TaskNo}}
 use Rattle.osek_standard.specs.{declared.app.App.{App}, Internal.{internal_of}}
@@ -160,10 +160,10 @@ module _ (app : App) (n : ℕ) (tasks : List TaskNo) (h : AreNaming app n tasks)
       | inr same ↦ (let number = ap (λ (k : TaskNo). k.0) same in (omega (arith, number, is), subst (λ (k : TaskNo). IsTrue (is_some (internal_of app k.0))) same named))
     ];
     some = λ u lt names. elim (cases_lt u n) [
-      | inl below ↦ Contains-append_left tasks (t ∷ []) (task_no u) (h.some u below names)
+      | inl below ↦ ∥∥₁_map (h.some u below names) (Contains-append_left tasks (t ∷ []) (task_no u))
       | inr above ↦
           (let same : task_no u ≡ t = λ i. record { 0 = its_number u lt above i } in
-          Contains-append_right tasks (t ∷ []) (task_no u) (0, omega arith, sym same))
+          ∣ Contains-append_right tasks (t ∷ []) (task_no u) (0, omega arith, sym same) ∣₁)
     ];
     once = λ i j d e first known. elim (cases_lt j (length tasks)) [
       | inl below ↦

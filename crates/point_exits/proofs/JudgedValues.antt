@@ -11,7 +11,8 @@ use Rattle.flow_model.specs.Values.{is_live_value, value_priority, restacked_par
 use Rattle.numbered_sets.specs.{Numbers.{Numbers, numbers, has_number, with_number}, Pools.{IsNumberOf, IsBeside}}
 use Rattle.numbered_sets.proofs.KnownNumbers.{no_bit_of_none}
 use Rattle.flow_exits.specs.{declared.priority.Candidate.{Candidate}, Candidates.{candidate_of}}
-use Rattle.point_exits.specs.{declared.task_levels.{Level.{Level}, TaskLevels.{TaskLevels}}, Levels.{IsLiveAt, AreOf, IsDead, IsLevel, HasLevel, AreTaskLevels, with_next}}
+use Rattle.point_exits.specs.{declared.task_levels.{Level.{Level}, TaskLevels.{TaskLevels}}, Levels.{IsLiveAt, AreOf, IsDead, IsLevel, AreTaskLevels, with_next}}
+use Rattle.point_exits.proofs.FoundLevels.{HasLevel, found_place, told_place}
 
 -- ---- a set with a number more
 
@@ -81,14 +82,14 @@ module _ (app : App) (u : ℕ) (vs : List PartValue) where
       | inl old ↦ h.levels level old
       | inr new ↦ λ n v has. absurd (none_of level.numbers d n (ap (λ (y : Level). y.numbers) (sym new) ∙ none) has)
     ];
-    whole = λ n lt. elim (h.whole n lt) [
+    whole = λ n lt. told_place x.dead levels n (elim (found_place x.dead x.levels n (h.whole n lt)) [
       | inl dead ↦ inl dead
       | inr old ↦ inr (record {
         level = old.level;
         listed = subst (λ (ls : List Level). Contains ls old.level) (sym more) (Contains-append_left x.levels (l ∷ []) old.level old.listed);
         has = old.has;
       })
-    ];
+    ]);
   }
 
   still_of : (P : PartValue → Type 0) (k : ℕ) (x : Numbers) → AreOf P vs k x → AreOf P vs (k + 1) x
@@ -107,13 +108,13 @@ module _ (app : App) (u : ℕ) (vs : List PartValue) where
       few = omega (arith, is.known);
       dead = one_more_of IsDead x.judged x.dead v h.dead is its;
       levels = λ level there. still_of (IsLiveAt app u level.priority) x.judged level.numbers (h.levels level there);
-      whole = λ n lt. elim (cases_eq n x.judged) [
+      whole = λ n lt. told_place (with_number x.dead x.judged) x.levels n (elim (cases_eq n x.judged) [
         | inl new ↦ inl (with_new x.dead x.judged n new)
-        | inr other ↦ elim (h.whole n (omega (arith, lt, other))) [
+        | inr other ↦ elim (found_place x.dead x.levels n (h.whole n (omega (arith, lt, other)))) [
           | inl dead ↦ inl (with_old x.dead x.judged n dead)
           | inr live ↦ inr live
         ]
-      ];
+      ]);
     })
 
     -- it is at the level at a place
@@ -158,11 +159,11 @@ module _ (app : App) (u : ℕ) (vs : List PartValue) where
             (subst (IsLevel app u vs (x.judged + 1)) (sym after_is) (one_more_of (IsLiveAt app u l.priority) x.judged l.numbers v (h.levels l (k, known, at)) is live))
             (λ i d lt. still_of (IsLiveAt app u (get_or x.levels i d).priority) x.judged (get_or x.levels i d).numbers (h.levels (get_or x.levels i d) (Contains-get_or x.levels i d lt))))
             there;
-        whole = λ n lt. elim (cases_eq n x.judged) [
+        whole = λ n lt. told_place x.dead (set x.levels k after) n (elim (cases_eq n x.judged) [
           | inl new ↦ inr (at_its n (with_new l.numbers x.judged n new))
-          | inr other ↦ elim (h.whole n (omega (arith, lt, other))) [
+          | inr other ↦ elim (found_place x.dead x.levels n (h.whole n (omega (arith, lt, other)))) [
             | inl dead ↦ inl dead
             | inr old ↦ inr (stays n old)
           ]
-        ];
+        ]);
       })

@@ -1,7 +1,7 @@
 -- What a claim leaves of an entry.
 use Rattle.std.proofs.Common.{◌≡◌, ◌≢◌, ℕ, ◌+◌, ◌<◌, ◌≤◌, Bool, true, false, not, ◌&&◌, List, length, map, get_or, set, refl, sym, ap, ap₂, subst, ◌∙◌, inl, inr, arith, IsTrue, Some, None, get_or-set_other}
-use Rattle.std.specs.{Prelude.{if◌then◌else◌, slice_index_or}, declared.option.Option.{Option}}
-use Rattle.std.proofs.{Math.ListN.{get_or-map}, lemmas.{Bool.{cases_eq, cases_lt, and_parts, ltb-true, ltb-false, lt-ltb, le-ltb}, List.{length-map, map-set, set-get_or}}}
+use Rattle.std.specs.{Prelude.{if◌then◌else◌, slice_index_or}, Coded.{le_prop}, declared.option.Option.{Option}}
+use Rattle.std.proofs.{Math.{ListN.{get_or-map}, Logic.{∥∥₁_elim}}, lemmas.{Bool.{cases_eq, cases_lt, and_parts, ltb-true, ltb-false, lt-ltb, le-ltb}, List.{length-map, map-set, set-get_or}}}
 use Rattle.osek_standard.specs.declared.app.App.{App}
 use Rattle.abstract_state.specs.declared.value.{Val.{Val, TheVariants.{Suspended, Live, Waiting}}, PartValue.{PartValue, TheVariants.{OfAlarm}}}
 use Rattle.abstract_state.specs.declared.value.Domain.TheVariants as domain
@@ -163,8 +163,8 @@ module _ (app : App) (pool : List Values) (claim : Claim) (entry : NumberedEntry
         (let some = some_number (numbers_at entry c) (filled.each c (omega (arith, lt, as_many_left (is_under_limit app claim (length app.tasks)) pool entry left l))) in
         elim (cases_lt c (length app.tasks)) [
           | inl task ↦
-              (let need = get_or needs c 0 in
-              let below = (h.each c task).enough some.0 some.1 in
+              ∥∥₁_elim ((h.each c task).enough some.0 some.1) le_prop (λ below.
+              let need = get_or needs c 0 in
               let v = slice_index_or (values_at pool c) below.number (OfAlarm false) in
               let under : is_under_limit app claim (length app.tasks) c v ≡ true
               = under_at app claim (length app.tasks) c v task ∙ under_if app c (limit_of claim c) need (val_of v) (met c (omega (arith, task, h.size))) (below.below (OfAlarm false)) in

@@ -1,3 +1,4 @@
+pub mod FoundLevels
 pub mod JudgedValues
 pub mod NarrowingLaws
 pub mod InsideLevels

@@ -11,7 +11,8 @@ use Rattle.numbered_sets.proofs.{ViewLaws.{false_unless}, MeetLaws.{has_other, c
 use Rattle.flow_exits.specs.Claims.{is_below}
 use Rattle.flow_exits.proofs.PriorityTests.{below_means, below_passes}
 use Rattle.point_exits.specs.declared.task_levels.{Level.{Level}, TaskLevels.{TaskLevels}}
-use Rattle.point_exits.specs.Levels.{IsLiveAt, IsDead, HasLevel, AreTaskLevels, AreAllJudged, HasBelow, IsLeastLimit, IsNarrowed}
+use Rattle.point_exits.specs.Levels.{IsLiveAt, IsDead, AreTaskLevels, AreAllJudged, HasBelow, IsLeastLimit, IsNarrowed}
+use Rattle.point_exits.proofs.FoundLevels.{HasLevel, found_place}
 
 -- ---- values and a limit
 
@@ -43,18 +44,18 @@ module _ (app : App) (u : ℕ) (vs : List PartValue) (levels : TaskLevels) (x : 
     least = λ limit below. omega arith;
     enough = λ n has. (
         let common = common_of x levels.dead met in
-        record {
+        ∣ record {
           number = common.number;
           has = common.first;
           below = λ d. dead_below app u 0 (get_or vs common.number d) (h.dead common.number d common.second).1;
-        });
+        } ∣₁);
   }
 
   module _ (need : ℕ) (none : meets x levels.dead ≡ false)
       (least : (level : Level) → Contains levels.levels level → IsTrue (meets x level.numbers) → need ≤ level.priority + 1)
       (enough : (level : Level) → Contains levels.levels level → IsTrue (meets x level.numbers) → HasLevelBelow levels.levels x need) where
     its_level : (n : ℕ) → IsTrue (has_number x n) → HasLevel levels.levels n
-    its_level n has = elim (h.whole n (all n has)) [
+    its_level n has = elim (found_place levels.dead levels.levels n (h.whole n (all n has))) [
       | inl dead ↦ absurd (let met = meets_at x levels.dead n has dead in cc)
       | inr level ↦ level
     ]
@@ -80,7 +81,7 @@ module _ (app : App) (u : ℕ) (vs : List PartValue) (levels : TaskLevels) (x : 
     pub least_of_live : IsLeastLimit app u vs x need
     least_of_live = record {
       least = λ limit low. within limit low.number low.has low.below;
-      enough = λ n has. (let its = its_level n has in some_below (enough its.level its.listed (meets_at x its.level.numbers n has its.has)));
+      enough = λ n has. (let its = its_level n has in ∣ some_below (enough its.level its.listed (meets_at x its.level.numbers n has its.has)) ∣₁);
     }
 
 -- The least limit under which the task is with a value of the levels up to a place. It begins past all priorities.
@@ -271,7 +272,7 @@ module _ (app : App) (u : ℕ) (pool : List Values) (levels : TaskLevels) (entry
       live_left n d =
           narrowed_at (has_number (numbers_at entry u) n) (has_number (numbers_at entry u) n && not (has_number levels.dead n)) (is_live_value (val_of (get_or (values_at pool u) n d)))
           (has_first (has_number (numbers_at entry u) n) (has_number levels.dead n))
-          (λ has. ap (λ (a : Bool). a && not (has_number levels.dead n)) has ∙ elim (h.whole n (all n has)) [
+          (λ has. ap (λ (a : Bool). a && not (has_number levels.dead n)) has ∙ elim (found_place levels.dead levels.levels n (h.whole n (all n has))) [
             | inl dead ↦ ap not dead ∙ sym (h.dead n d dead).1
             | inr its ↦
                 (let live = (lives its.level its.listed n d its.has).live in
@@ -280,7 +281,7 @@ module _ (app : App) (u : ℕ) (pool : List Values) (levels : TaskLevels) (entry
 
   module _ (limit k : ℕ) (cut : AreCutUpTo levels.levels limit u k entry after) (whole : length levels.levels ≤ k) where
     below_left : (n : ℕ) (d : PartValue) → IsTrue (has_number (numbers_at entry u) n) → has_number (numbers_at after u) n ≡ is_below app u limit (val_of (get_or (values_at pool u) n d))
-    below_left n d has = elim (h.whole n (all n has)) [
+    below_left n d has = elim (found_place levels.dead levels.levels n (h.whole n (all n has))) [
       | inl dead ↦
           cut.stays n has (λ i e lt le. false_unless (has_number (get_or levels.levels i e).numbers n) ⊥ (λ there.
           let live = (lives (get_or levels.levels i e) (Contains-get_or levels.levels i e (omega (arith, lt, cut.few))) n d there).live in

@@ -22,7 +22,7 @@ module _ (app : App) (pool : List Values) (levels : Levels) (t : ℕ) (known : t
     all_judged entry numbers n has = (let lt = numbers.known t n has in omega (arith, lt, own_judged))
 
     pub level_of_own : (level : Level) → Contains own.levels level → IsLevelOf levels t level
-    level_of_own level listed none = subst (λ (x : TaskLevels). Contains x.levels level) (sym (is none)) listed
+    level_of_own level listed none = ∣ subst (λ (x : TaskLevels). Contains x.levels level) (sym (is none)) listed ∣₁
 
 -- ---- what the tasks need, one after another
 

@@ -1,5 +1,5 @@
 -- The exits of settled groups: what the decision makes of the values of the exits before, which the scheduler decides about.
-use Rattle.std.proofs.Common.{◌≡◌, ◌⊎◌, ℕ, ◌+◌, ◌-◌, ◌<◌, ◌≤◌, Bool, List, length, get_or, refl, sym, ap, subst, ◌∙◌, inl, inr, arith, IsTrue, Some, None}
+use Rattle.std.proofs.Common.{◌≡◌, ◌⊎◌, ℕ, ◌+◌, ◌-◌, ◌<◌, Bool, List, length, get_or, refl, sym, ap, subst, ◌∙◌, inl, inr, arith, IsTrue, Some, None}
 use Rattle.std.specs.{Prelude.{Contains}, declared.option.Option.{Option}}
 use Rattle.std.proofs.lemmas.{Bool.{cases_lt}, List.{length-append, get_or_append_left, get_or-append-add, get_or_default, Elements.{Contains-append_cases}}}
 use Rattle.osek_standard.specs.declared.{app.App.{App}, point.Point.{Point}}
@@ -136,9 +136,6 @@ module _ (app : App) (goes : ℕ → Bool) (pool : List Values) where
 -- ---- what was decided
 
 module _ (app : App) (pool : List Values) (leaving : Leaving) (after : NumberedEntry) (before now : List ExitGroup) (h : AddsFor app pool leaving after IsAny before now) where
-  pub decided_more : length before ≤ length now
-  decided_more = omega (arith, ap length h.added, length-append before h.more)
-
   pub decided_known : AreKnownGroups pool before → AreKnownGroups pool now
   decided_known known = subst (AreKnownGroups pool) (sym h.added) (λ g m. elim (Contains-append_cases before h.more g m) [ inl old ↦ known g old | inr new ↦ h.known g new ])
 

@@ -1,7 +1,7 @@
 -- Groups are settled one after another: who comes in by a decision is one task, or none.
 use Rattle.std.proofs.Common.{◌≡◌, ◌≢◌, ℕ, ◌+◌, ◌<◌, ◌≤◌, Bool, true, false, List, [], length, get_or, set, refl, sym, ap, subst, ◌∙◌, inl, inr, arith, Some, None, get_or-set_same, get_or-set_other}
 use Rattle.std.specs.{Prelude.{◌==◌, is_some, Contains}, declared.option.Option.{Option}}
-use Rattle.std.proofs.{Math.ListN.{get_or-map}, lemmas.{Bool.{and_parts, cases_Bool, cases_eq, eq-eqb, false≢true, ne_eqb}, List.{get_or_default, length-map, length-set}}}
+use Rattle.std.proofs.{Math.{ListN.{get_or-map}, Logic.{∥∥₁_elim}}, lemmas.{Bool.{and_parts, cases_Bool, cases_eq, eq-eqb, false≢true, ne_eqb}, List.{get_or_default, length-map, length-set}}}
 use Rattle.osek_values.specs.{Numbers.{task_no}, declared.numbers.TaskNo.{TaskNo}}
 use Rattle.osek_standard.specs.{declared.{app.App.{App}, point.Point.{Point}}, Internal.{internal_of}}
 use Rattle.abstract_state.specs.declared.value.PartValue.{PartValue}
@@ -65,11 +65,11 @@ module _ (app : App) (x : Stay) (d : Decision) where
       | inr stays ↦ stays
       | inl goes ↦
           (let parts = and_parts (has_it_after app x d c) (is_some (internal_of app c)) goes in
-          let m = h.some c (goes_known app x d c goes) parts.1 in
+          absurd (∥∥₁_elim (h.some c (goes_known app x d c goes) parts.1) (λ (a b : ⊥). absurd a) (λ m.
           let lt : m.0 < length insides = (let below = m.1 in omega (arith, below, length-map insides (λ (y : Insides). y.task))) in
           let some : Insides = record { task = task_no c; numbers = [] } in
           let is : (get_or insides m.0 some).task ≡ task_no c = sym (get_or-map (λ (y : Insides). y.task) insides m.0 some) ∙ m.2 in
-          absurd (false≢true (sym (never m.0 some lt) ∙ ap (λ (t : TaskNo). has_it_after app x d t.0) is ∙ parts.0)))
+          false≢true (sym (never m.0 some lt) ∙ ap (λ (t : TaskNo). has_it_after app x d t.0) is ∙ parts.0))))
     ]
 
 -- ---- one end after another

@@ -9,13 +9,13 @@ use Rattle.abstract_state.proofs.ComponentLaws.{task_counted}
 use Rattle.flow_model.specs.declared.case.{Asked.{Asked}, Decision.{Decision}}
 use Rattle.flow_model.specs.declared.case.Asked.TheVariants as asked
 use Rattle.flow_model.specs.declared.case.Decision.TheVariants as decision
-use Rattle.flow_model.specs.{Values.{is_live_value}, Effects.{AreIn}, Scheduling.{IsLiveTask, DecidesBy}, declared.case.Leaving.{Leaving}}
+use Rattle.flow_model.specs.{Values.{is_live_value}, Effects.{AreIn}, Scheduling.{IsLiveTask, Decides, DecidesBy}, declared.case.Leaving.{Leaving}}
 use Rattle.numbered_sets.specs.{declared.numbered_entry.NumberedEntry.{NumberedEntry}, Numbers.{Numbers}, NumberedEntries.{numbers_at, AreFilled, HasEmptySet}}
 use Rattle.numbered_sets.specs.{Pools.{Values, values_at}, Views.{plain_entry, AreNumbersOf}}
 use Rattle.flow_exits.specs.Outcomes.{IsVacant, idle_decision}
 use Rattle.point_exits.specs.{declared.{task_levels.TaskLevels.{TaskLevels}, levels.Levels.{Levels}}, Levels.{AreTaskLevels, AreAllLevels, AreAllJudged, IsNarrowed}}
 use Rattle.point_exits.proofs.LevelLaws.{narrowed_elsewhere, narrowed_known, narrowed_members, narrowed_beside, narrowed_size}
-use Rattle.point_exits.specs.{declared.group.ExitGroup.{ExitGroup}, Deciding.{DecidesSo, AddsFor, IsAny, IsIt, IsWinnerBelow, IsWhole, IsAlive, IsAsked, IsGroupFor}}
+use Rattle.point_exits.specs.{declared.group.ExitGroup.{ExitGroup}, Deciding.{AddsFor, IsAny, IsIt, IsWinnerBelow, IsWhole, IsAlive, IsAsked, IsGroupFor}}
 use Rattle.point_exits.proofs.{NumberLaws.{member_number, number_fills}, OwnLevels.{own_levels, all_judged}, AddingLaws.{nothing_more, then_more, of_part}}
 
 -- ---- the values with which a task is Live
@@ -123,7 +123,7 @@ module _ (app : App) (pool : List Values) (leaving : Leaving) (after : NumberedE
       keeps value (decision.To x) h = absurd h
 
   module _ (t : TaskNo) (running : leaving.asked ≡ asked.Maybe t) where
-    runs_so : (value : ℕ → PartValue) (d : Decision) → DecidesSo app leaving value d → DecidesBy app value leaving.last (asked.Maybe t) d
+    runs_so : (value : ℕ → PartValue) (d : Decision) → Decides app value leaving d → DecidesBy app value leaving.last (asked.Maybe t) d
     runs_so value d = subst (λ (a : Asked). DecidesBy app value leaving.last a d) running
 
     pub running_adds : (a b c : List ExitGroup) → AddsFor app pool leaving after (IsIt decision.Keep) a b → AddsFor app pool leaving after (IsWinnerBelow (length app.tasks)) b c → AddsFor app pool leaving after IsAny a c

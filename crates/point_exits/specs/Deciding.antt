@@ -11,20 +11,27 @@ use Rattle.flow_model.specs.declared.case.Stay.TheVariants as stay
 use Rattle.flow_model.specs.declared.case.Decision.TheVariants as decision
 use Rattle.flow_model.specs.declared.runner.Runner.{Runner}
 use Rattle.flow_model.specs.declared.runner.Runner.TheVariants as runner
-use Rattle.flow_model.specs.{Values.{is_live_value, block_of_part}, Runners.{component_of, runner_point}, Effects.{AreIn, stay_point}, Scheduling.{Decides, end_point}}
+use Rattle.flow_model.specs.{Values.{is_live_value, block_of_part}, Runners.{component_of, runner_point}, Effects.{AreIn, stay_point, IsKnownStay}, Scheduling.{Decides, end_point}}
 use Rattle.numbered_sets.specs.{declared.numbered_entry.NumberedEntry.{NumberedEntry}, Numbers.{has_number, kept_numbers}, NumberedEntries.{numbers_at, AreFilled}, Pools.{Values, values_at, IsNumberOf}}
 use Rattle.numbered_sets.specs.Views.{plain_entry, AreNumbersOf}
 use Rattle.flow_exits.specs.{declared.{exit.Exit.{Exit}, claim.Claim.{Claim}}, Exits.{IsFilled}, Claims.{limit_of, AreUnder}}
 use Rattle.point_exits.specs.declared.{task_levels.{Level.{Level}, TaskLevels.{TaskLevels}}, levels.Levels.{Levels}}
 use Rattle.point_exits.specs.declared.group.{NumberEnd.{NumberEnd}, Ends.{Ends}, ExitGroup.{ExitGroup}}
 use Rattle.point_exits.specs.declared.group.Ends.TheVariants as ends
-use Rattle.point_exits.specs.{Groups.{all_exits, AreKnownGroups}, Narrowing.{IsLeft, is_under_limit}}
+use Rattle.point_exits.specs.{Groups.{all_exits, AreKnownGroups}, Levels.{AreAllLevels}, Narrowing.{IsLeft, is_under_limit}}
 
 -- an entry with numbers of the pool, of which each component has one
 pub record IsWhole (app : App) (pool : List Values) (entry : NumberedEntry) : Type 0 where
   pub size : component_count app ≤ length entry.sets
   pub numbers : AreNumbersOf pool entry
   pub filled : AreFilled entry
+
+-- Of this the scheduler can decide: each value has its level, each component a value, and the task exists at whose block the
+-- processor may stay.
+pub record IsDecidable (app : App) (pool : List Values) (these : Levels) (leaving : Leaving) (after : NumberedEntry) : Type 0 where
+  pub stay : IsKnownStay app leaving.stay
+  pub levels : AreAllLevels app pool these
+  pub whole : IsWhole app pool after
 
 -- ---- ends
 
@@ -92,9 +99,6 @@ IsKnownDecision app decision.Keep = ⊤
 IsKnownDecision app (decision.To None) = ⊤
 IsKnownDecision app (decision.To (Some w)) = w.0 < length app.tasks
 
-abbrev pub DecidesSo : App → Leaving → (ℕ → PartValue) → Decision → Type 0
-DecidesSo app leaving value d = Decides app value leaving d
-
 -- An exit that isn't settled yet: with each choice of its values, which are values after the effect, the scheduler decides as the
 -- exit says, and the step ends where it does.
 pub record IsUnsettled (app : App) (leaving : Leaving) (after : PlainEntry) (x : Exit) : Type 0 where
@@ -122,7 +126,7 @@ pub record AddsFor (app : App) (pool : List Values) (leaving : Leaving) (after :
   pub added : now ≡ before ++ more
   pub known : AreKnownGroups pool more
   pub each : (x : Exit) → Contains (all_exits pool more) x → IsUnsettled app leaving (plain_entry pool after) x
-  pub whole : (value : ℕ → PartValue) (d : Decision) → AreIn app (plain_entry pool after) value → DecidesSo app leaving value d → P value d → HasUnsettled app leaving (all_exits pool more) d value
+  pub whole : (value : ℕ → PartValue) (d : Decision) → AreIn app (plain_entry pool after) value → Decides app value leaving d → P value d → HasUnsettled app leaving (all_exits pool more) d value
 
 abbrev pub IsAny : (ℕ → PartValue) → Decision → Type 0
 IsAny value d = ⊤
@@ -157,7 +161,7 @@ pub record IsWinnerBelow (n : ℕ) (value : ℕ → PartValue) (d : Decision) : 
 
 -- it is a level of task t
 abbrev pub IsLevelOf : Levels → ℕ → Level → Type 0
-IsLevelOf levels t level = (none : TaskLevels) → Contains (slice_index_or levels.tasks t none).levels level
+IsLevelOf levels t level = (none : TaskLevels) → ∥ Contains (slice_index_or levels.tasks t none).levels level ∥₁
 
 -- task t is Live with each value that the entry has of it
 pub record IsAlive (app : App) (pool : List Values) (entry : NumberedEntry) (t : ℕ) : Type 0 where

@@ -1,5 +1,5 @@
 -- The values of tasks by what the scheduler reads of them.
-use Rattle.std.specs.Prelude.{◌≡◌, ◌≢◌, ◌⊎◌, ℕ, ◌<◌, ◌≤◌, ◌+◌, ◌&&◌, Bool, false, List, [], length, map, slice_index_or, slice_set, IsTrue, is_some, Contains}
+use Rattle.std.specs.{Prelude.{◌≡◌, ◌≢◌, ℕ, ◌<◌, ◌≤◌, ◌+◌, ◌&&◌, ◌||◌, Bool, false, List, [], length, map, slice_index_or, slice_set, IsTrue, is_some, Contains}, List.{list_any}}
 use Rattle.osek_values.specs.{Numbers.{task_no}, declared.numbers.TaskNo.{TaskNo}}
 use Rattle.osek_standard.specs.{declared.app.App.{App}, Internal.{internal_of}}
 use Rattle.abstract_state.specs.declared.value.Component.TheVariants as component
@@ -27,17 +27,16 @@ IsDead v = is_live_value (val_of v) ≡ false
 abbrev pub IsLevel : App → ℕ → List PartValue → ℕ → Level → Type 0
 IsLevel app u vs judged x = AreOf (IsLiveAt app u x.priority) vs judged x.numbers
 
-pub record HasLevel (levels : List Level) (n : ℕ) : Type 0 where
-  pub level : Level
-  pub listed : Contains levels level
-  pub has : IsTrue (has_number level.numbers n)
+-- some level has the number
+abbrev pub is_at_level : List Level → ℕ → Bool
+is_at_level levels n = list_any (λ (level : Level). has_number level.numbers n) levels
 
 -- The first values of task u, by what the scheduler reads of them: each is dead or at a level.
 pub record AreTaskLevels (app : App) (u : ℕ) (vs : List PartValue) (x : TaskLevels) : Type 0 where
   pub few : x.judged ≤ length vs
   pub dead : AreOf IsDead vs x.judged x.dead
   pub levels : (level : Level) → Contains x.levels level → IsLevel app u vs x.judged level
-  pub whole : (n : ℕ) → n < x.judged → IsTrue (has_number x.dead n) ⊎ HasLevel x.levels n
+  pub whole : (n : ℕ) → n < x.judged → IsTrue (has_number x.dead n || is_at_level x.levels n)
 
 -- the next value was judged too
 abbrev pub with_next : TaskLevels → TaskLevels
@@ -54,7 +53,7 @@ inside_tasks insides = map (λ (x : Insides). x.task) insides
 -- of the tasks below n those that name an INTERNAL resource, none twice
 pub record AreNaming (app : App) (n : ℕ) (tasks : List TaskNo) : Type 0 where
   pub each : (t : TaskNo) → Contains tasks t → (t.0 < n) × IsTrue (is_some (internal_of app t.0))
-  pub some : (t : ℕ) → t < n → IsTrue (is_some (internal_of app t)) → Contains tasks (task_no t)
+  pub some : (t : ℕ) → t < n → IsTrue (is_some (internal_of app t)) → ∥ Contains tasks (task_no t) ∥₁
   pub once : (i j : ℕ) (d e : TaskNo) → i < j → j < length tasks → (slice_index_or tasks i d).0 ≢ (slice_index_or tasks j e).0
 
 -- nothing was seen yet of these tasks
@@ -98,7 +97,7 @@ pub record HasBelow (app : App) (u limit : ℕ) (vs : List PartValue) (x : Numbe
 -- The least limit under which the task is with one of these values.
 pub record IsLeastLimit (app : App) (u : ℕ) (vs : List PartValue) (x : Numbers) (need : ℕ) : Type 0 where
   pub least : (limit : ℕ) → HasBelow app u limit vs x → need ≤ limit
-  pub enough : (n : ℕ) → IsTrue (has_number x n) → HasBelow app u need vs x
+  pub enough : (n : ℕ) → IsTrue (has_number x n) → ∥ HasBelow app u need vs x ∥₁
 
 -- The numbers are left that pass, of one component alone.
 pub record IsNarrowed (passes : PartValue → Bool) (pool : List Values) (c : ℕ) (entry after : NumberedEntry) : Type 0 where

@@ -7,6 +7,7 @@ pub mod Sifting
 pub mod Groups
 pub mod Narrowing
 pub mod Deciding
+pub mod OneProof
 pub mod Settling
 pub mod AfterEffect
 pub mod Leaving

@@ -1,21 +1,22 @@
 //! The rules by which routines begin, and the exits of a point by them.
-ghost use Rattle.std.specs.Prelude.{◌≡◌, ◌<◌, true, List, length, slice_index_or, IfOk, OnOk, IfSome};
+ghost use Rattle.std.specs.Prelude.{◌≡◌, true, List, length, OnOk};
 ghost use Rattle.osek_standard.specs.declared.{app.App.{App}, point.Point.{Point}};
 ghost use Rattle.abstract_state.specs.Domains.{domains_of};
-ghost use Rattle.flow_model.specs.declared.{change.Change.{Change}, rule.Rule.{Rule}};
+ghost use Rattle.flow_model.specs.declared.rule.Rule.{Rule};
 ghost use Rattle.numbered_sets.specs.{NumberedEntries.{number_domains, AreFilled}, Pools.{Values, IsLonger}};
 ghost use Rattle.numbered_sets.specs.Views.{plain_entry, AreNumbersOf};
 ghost use Rattle.flow_exits.specs.Arrivals.{IsArrivalRule, AreArrivals};
-ghost use Rattle.point_exits.specs.{Applying.{KeepsDomains, IsAloneIn}, Groups.{AreKnownGroups}};
-ghost use Rattle.point_exits.specs.Leaving.{AddsRoutines, AddsEnd, IsSetEnd, IsAmongFirst, AreSharedEnds, is_bare as is_bare_of};
+ghost use Rattle.point_exits.specs.{Applying.{KeepsDomains}, Groups.{AreKnownGroups}, OneProof.{SameDomains-prop}};
+ghost use Rattle.point_exits.specs.Leaving.{AddsRoutines, IsAmongFirst, AreSharedEnds, is_bare as is_bare_of};
 
-use crate::changes::{apply, updated};
+use crate::bare_rule::BareRule;
+use crate::changes::apply;
 use crate::group::{Ends, ExitGroup, NumberEnd};
 use crate::levels::Levels;
-use abstract_state::{PartValue, Point};
+use abstract_state::Point;
 use flow_exits::{arrivals, arrivals_over};
-use flow_model::{Rule, Runner, Update};
-use numbered_sets::{NumberedEntry, NumberedSet, Pool};
+use flow_model::{Rule, Runner};
+use numbered_sets::{NumberedEntry, Pool};
 use osek_standard::App;
 use osek_values::{Memory, Seq, SourceNo, TaskNo};
 use std::alloc::Global;
@@ -40,6 +41,8 @@ pub struct NumberedPoint<'a> {
     pub app: &'a App,
     pub point: Point,
     pub entry: &'a NumberedEntry,
+    ghost domains: { number_domains entry.now ≡ domains_of app.now } by { SameDomains-prop (number_domains entry.now) (domains_of app.now) },
+    ghost filled: { AreFilled entry.now },
 }
 
 impl Arrivals {
@@ -119,9 +122,8 @@ impl Arrivals {
 impl<'a> NumberedPoint<'a> {
     ghost use Rattle.std.specs.Prelude.{◌≡◌, OnOk};
     ghost use Rattle.osek_standard.specs.Points.{IsPoint};
-    ghost use Rattle.abstract_state.specs.Domains.{domains_of};
     ghost use Rattle.flow_model.specs.Effects.{AreAllAllowed};
-    ghost use Rattle.numbered_sets.specs.{NumberedEntries.{number_domains, AreFilled}, Pools.{IsLonger}, Views.{plain_entry, AreNumbersOf}};
+    ghost use Rattle.numbered_sets.specs.{Pools.{IsLonger}, Views.{plain_entry, AreNumbersOf}};
     ghost use Rattle.flow_exits.specs.Arrivals.{AreArrivals};
     ghost use Rattle.point_exits.specs.{Levels.{AreLevels}, Groups.{AreKnownGroups}, Leaving.{AddsArrivals}};
 
@@ -136,8 +138,6 @@ impl<'a> NumberedPoint<'a> {
     ) -> Result<(), Memory>
         requires point { IsPoint self.now.app.now self.now.point }
         requires numbers { AreNumbersOf pool.old self.now.entry.now }
-        requires domains { number_domains self.now.entry.now ≡ domains_of self.now.app.now }
-        requires filled { AreFilled self.now.entry.now }
         requires allowed { AreAllAllowed self.now.app.now self.now.point (plain_entry pool.old self.now.entry.now) }
         requires levels { AreLevels self.now.app.now pool.old levels.old }
         requires known { AreKnownGroups pool.old groups.old.items }
@@ -168,8 +168,6 @@ impl<'a> NumberedPoint<'a> {
         requires point { IsPoint self.now.app.now self.now.point }
         requires rules { AreArrivals self.now.app.now self.now.point rules.now }
         requires numbers { AreNumbersOf pool.old self.now.entry.now }
-        requires domains { number_domains self.now.entry.now ≡ domains_of self.now.app.now }
-        requires filled { AreFilled self.now.entry.now }
         requires allowed { AreAllAllowed self.now.app.now self.now.point (plain_entry pool.old self.now.entry.now) }
         requires known { AreKnownGroups pool.old groups.old.items }
         ensures pool { IsLonger pool.old pool.new }
@@ -179,7 +177,11 @@ impl<'a> NumberedPoint<'a> {
         let mut shared = Seq::new(alloc);
         for rule in rules.as_slice() {
             if is_bare(rule) {
-                push_end(alloc, rule, pool, self.entry, &mut shared)?;
+                let bare = BareRule {
+                    rule,
+                    entry: self.entry,
+                };
+                bare.push_end(alloc, pool, &mut shared)?;
             } else {
                 push_arrival(alloc, rule, pool, self.entry, groups)?;
             }
@@ -223,99 +225,6 @@ fn is_bare(rule: &Rule) -> bool
     ensures { result ≡ is_bare_of rule.now }
 {
     rule.conditions.is_empty() && rule.changes.len() == 1
-}
-
-// adds what a rule that takes all values makes of the one component that it changes
-fn push_end(
-    alloc: Global,
-    rule: &Rule,
-    pool: &mut Pool,
-    entry: &NumberedEntry,
-    shared: &mut Seq<NumberEnd>,
-) -> Result<(), Memory>
-    requires numbers { AreNumbersOf pool.old entry.now }
-    requires filled { AreFilled entry.now }
-    requires kept { KeepsDomains rule.now (plain_entry pool.old entry.now) }
-    requires bare { is_bare_of rule.now ≡ true }
-    requires known { (x : Change) → slice_index_or rule.now.changes 0 x ≡ x → x.component.0 < length entry.now.sets }
-    ensures pool { IsLonger pool.old pool.new }
-    ensures added { OnOk result (AddsEnd rule.now entry.now pool.old shared.old pool.new shared.new) }
-{
-    let Some(end) = second_end(alloc, rule, pool)? else {
-        return push_made(alloc, rule, pool, entry, shared);
-    };
-    shared.push(end)?;
-    Ok(())
-}
-
-// the end of a rule that sets the value that its component was seen with second
-fn second_end(alloc: Global, rule: &Rule, pool: &Pool) -> Result<Option<NumberEnd>, Memory>
-    requires bare { is_bare_of rule.now ≡ true }
-    requires known { (x : Change) → slice_index_or rule.now.changes 0 x ≡ x → x.component.0 < length pool.now }
-    ensures { IfOk result (λ end. IfSome end (IsSetEnd rule.now pool.now)) }
-{
-    let change = rule.changes.at(0);
-    let Update::Set(to) = &change.update else {
-        return Ok(None);
-    };
-    let component = change.component.index();
-    let Some(numbers) = second_alone(alloc, pool, component, to)? else {
-        return Ok(None);
-    };
-    Ok(Some(NumberEnd {
-        component,
-        numbers,
-        target: rule.target,
-    }))
-}
-
-// The set of the number of a value alone, where the component was seen with it second: mostly a source is out at first, and
-// then its routine begins. So no value is looked up.
-fn second_alone(
-    alloc: Global,
-    pool: &Pool,
-    component: usize,
-    value: &PartValue,
-) -> Result<Option<NumberedSet>, Memory>
-    requires { component < length pool.now }
-    ensures { IfOk result (λ set. IfSome set (IsAloneIn pool.now component value.now)) }
-{
-    if pool.len(component) < 2 {
-        return Ok(None);
-    }
-    if !pool.value(component, 1).is(value) {
-        return Ok(None);
-    }
-    let mut alone = NumberedSet::new(alloc, pool.domain(component));
-    alone.put(1)?;
-    Ok(Some(alone))
-}
-
-// adds that by the numbers of what it makes of each
-fn push_made(
-    alloc: Global,
-    rule: &Rule,
-    pool: &mut Pool,
-    entry: &NumberedEntry,
-    shared: &mut Seq<NumberEnd>,
-) -> Result<(), Memory>
-    requires numbers { AreNumbersOf pool.old entry.now }
-    requires filled { AreFilled entry.now }
-    requires kept { KeepsDomains rule.now (plain_entry pool.old entry.now) }
-    requires bare { is_bare_of rule.now ≡ true }
-    requires known { (x : Change) → slice_index_or rule.now.changes 0 x ≡ x → x.component.0 < length entry.now.sets }
-    ensures pool { IsLonger pool.old pool.new }
-    ensures added { OnOk result (AddsEnd rule.now entry.now pool.old shared.old pool.new shared.new) }
-{
-    let component = rule.changes.at(0).component.index();
-    let numbers = entry.sets.set(alloc, component)?;
-    let made = updated(alloc, &rule.changes, Some(0), pool, component, &numbers)?;
-    shared.push(NumberEnd {
-        component,
-        numbers: made,
-        target: rule.target,
-    })?;
-    Ok(())
 }
 
 // adds the exits by which routines begin that share an entry, if there are any

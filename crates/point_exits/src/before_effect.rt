@@ -6,7 +6,7 @@ ghost use Rattle.flow_model.specs.{Effects.{AreAllAllowed, IsKnownStay}, Rules.{
 ghost use Rattle.numbered_sets.specs.{NumberedEntries.{number_domains}, Pools.{IsLonger}, Views.{plain_entry, AreNumbersOf}};
 ghost use Rattle.flow_exits.specs.Leaving.{effect_rule};
 ghost use Rattle.point_exits.specs.{Levels.{AreLevels}, Applying.{KeepsDomains}, Groups.{AreKnownGroups}};
-ghost use Rattle.point_exits.specs.Leaving.{IsAfter, AddsEffects, AddsInstructions};
+ghost use Rattle.point_exits.specs.{Leaving.{IsAfter, AddsEffects, AddsInstructions}, OneProof.{SameDomains-prop}};
 ghost use Rattle.flow_effects.specs.Outs.{AreOutIn};
 
 use crate::after_effect::AfterEffect;
@@ -27,6 +27,7 @@ use std::alloc::Global;
 pub struct BeforeEffect<'a> {
     pub app: &'a App,
     pub before: &'a NumberedEntry,
+    pub ghost domains: { number_domains before.now ≡ domains_of app.now } by { SameDomains-prop (number_domains before.now) (domains_of app.now) },
 }
 
 impl<'a> BeforeEffect<'a> {
@@ -41,7 +42,6 @@ impl<'a> BeforeEffect<'a> {
     ) -> Result<(), Memory>
         requires point { IsPoint self.now.app.now point }
         requires numbers { AreNumbersOf pool.old self.now.before.now }
-        requires domains { number_domains self.now.before.now ≡ domains_of self.now.app.now }
         requires allowed { AreAllAllowed self.now.app.now point (plain_entry pool.old self.now.before.now) }
         requires levels { AreLevels self.now.app.now pool.old levels.old }
         requires known { AreKnownGroups pool.old groups.old.items }
@@ -67,7 +67,6 @@ impl<'a> BeforeEffect<'a> {
         groups: &mut Vec<ExitGroup>,
     ) -> Result<(), Memory>
         requires numbers { AreNumbersOf pool.old self.now.before.now }
-        requires domains { number_domains self.now.before.now ≡ domains_of self.now.app.now }
         requires stays { IsKnownStay self.now.app.now effect.now.leaving.stay }
         requires kept { KeepsDomains (effect_rule effect.now) (plain_entry pool.old self.now.before.now) }
         requires levels { AreLevels self.now.app.now pool.old levels.old }
@@ -80,21 +79,21 @@ impl<'a> BeforeEffect<'a> {
             return Ok(());
         };
         let from = groups.len();
-        AfterEffect {
+        let values = AfterEffect {
             app: self.app,
             pool: &*pool,
             levels: &*levels,
             leaving: effect.leaving,
             after,
-        }
-        .push_decided(alloc, groups)?;
-        Settling {
+        };
+        values.push_decided(alloc, groups)?;
+        let settling = Settling {
             app: self.app,
             pool: &*pool,
             levels: &*levels,
             stay: effect.leaving.stay,
-        }
-        .settle(alloc, from, groups)
+        };
+        settling.settle(alloc, from, groups)
     }
 
     /// What an effect makes of the values that it takes, and their levels with those of all values inside.
@@ -106,7 +105,6 @@ impl<'a> BeforeEffect<'a> {
         levels: &mut Levels,
     ) -> Result<Option<NumberedEntry>, Memory>
         requires numbers { AreNumbersOf pool.old self.now.before.now }
-        requires domains { number_domains self.now.before.now ≡ domains_of self.now.app.now }
         requires kept { KeepsDomains (effect_rule effect.now) (plain_entry pool.old self.now.before.now) }
         requires levels { AreLevels self.now.app.now pool.old levels.old }
         ensures pool { IsLonger pool.old pool.new }
@@ -132,7 +130,6 @@ impl<'a> BeforeEffect<'a> {
     pub fn sources_out(&self, alloc: Global, point: Point, pool: &Pool) -> Result<Seq<bool>, Memory>
         requires point { IsPoint self.now.app.now point }
         requires numbers { AreNumbersOf pool.now self.now.before.now }
-        requires domains { number_domains self.now.before.now ≡ domains_of self.now.app.now }
         ensures { IfOk result (λ outs. AreOutIn self.now.app.now outs (plain_entry pool.now self.now.before.now)) }
     {
         let Point::Routine { block, .. } = point else {
@@ -146,8 +143,7 @@ impl<'a> BeforeEffect<'a> {
 
     // of each source, whether it has no other value than Out
     fn each_source_out(&self, alloc: Global, pool: &Pool) -> Result<Seq<bool>, Memory>
-        requires numbers { AreNumbersOf pool.now self.now.before.now }
-        requires domains { number_domains self.now.before.now ≡ domains_of self.now.app.now }
+        requires { AreNumbersOf pool.now self.now.before.now }
         ensures { IfOk result (λ outs. AreOutIn self.now.app.now outs (plain_entry pool.now self.now.before.now)) }
     {
         let count = self.app.counters.len() + self.app.isrs.len();

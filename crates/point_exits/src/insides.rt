@@ -19,7 +19,7 @@ impl Insides {
     ghost use Rattle.abstract_state.specs.{declared.value.PartValue.{PartValue}, Domains.{IsWithin}};
     ghost use Rattle.flow_model.specs.declared.change.Update.TheVariants as updates;
     ghost use Rattle.flow_model.specs.Tests.{updated};
-    ghost use Rattle.numbered_sets.specs.{NumberedEntries.{numbers_at}, Pools.{Values, seen_at, values_at, domain_at, IsNumberOf, IsLonger, AreValues}};
+    ghost use Rattle.numbered_sets.specs.{NumberedEntries.{numbers_at}, Pools.{Values, values_at, domain_at, IsNumberOf, IsLonger}};
     ghost use Rattle.numbered_sets.specs.Made.{AreMade};
     ghost use Rattle.point_exits.specs.{Levels.{AreInside}, Settling.{IsSettledEnd, AreSettledEach, AreSettledEnds, IsSettledBy}};
 
@@ -35,26 +35,25 @@ impl Insides {
         ensures all { OnOk result (length self.new.numbers ≡ length (values_at pool.new self.old.task.0)) }
     {
         let component = self.task.index();
-        pool.are_values();
-        self.bring_in(pool.len(component), pool)?;
+        self.bring_in(pool)?;
         self.go_on_to(pool.len(component))
     }
 
-    // brings in those of the first values; what comes in by that is inside
-    fn bring_in(&mut self, came: usize, pool: &mut Pool) -> Result<(), Memory>
+    // brings in those of the values that came in; what comes in by that is inside
+    fn bring_in(&mut self, pool: &mut Pool) -> Result<(), Memory>
         requires known { self.old.task.0 < length pool.old }
-        requires came { came ≡ length (values_at pool.old self.old.task.0) }
-        requires values { AreValues (seen_at pool.old self.old.task.0) }
         requires within { (v : PartValue) → IsWithin (domain_at pool.old self.old.task.0) v → IsWithin (domain_at pool.old self.old.task.0) (updated updates.Inside v) }
         requires insides { AreInside (values_at pool.old self.old.task.0) self.old }
         ensures pool { IsLonger pool.old pool.new }
         ensures others { OnOk result ((c : ℕ) → c ≢ self.old.task.0 → values_at pool.new c ≡ values_at pool.old c) }
         ensures task { OnOk result (self.new.task ≡ self.old.task) }
         ensures insides { OnOk result (AreInside (values_at pool.new self.old.task.0) self.new) }
-        ensures first { OnOk result (length self.new.numbers ≡ came) }
-        ensures rest { OnOk result ((n : ℕ) (v : PartValue) → came ≤ n → IsNumberOf (values_at pool.new self.old.task.0) v n → updated updates.Inside v ≡ v) }
+        ensures first { OnOk result (length self.new.numbers ≡ length (values_at pool.old self.old.task.0)) }
+        ensures rest { OnOk result ((n : ℕ) (v : PartValue) → length (values_at pool.old self.old.task.0) ≤ n → IsNumberOf (values_at pool.new self.old.task.0) v n → updated updates.Inside v ≡ v) }
     {
+        pool.are_values();
         let component = self.task.index();
+        let came = pool.len(component);
         for number in self.numbers.len()..came {
             let inside = Update::Inside.of(&pool.value(component, number));
             let found = pool.number(component, inside)?;

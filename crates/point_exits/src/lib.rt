@@ -3,8 +3,10 @@
 
 mod after_effect;
 mod arrivals;
+mod bare_rule;
 mod before_effect;
 mod changes;
+mod contest;
 mod exits;
 mod group;
 mod insides;

@@ -1,6 +1,7 @@
 //! Who has the processor after a decision comes in, where it names an INTERNAL resource.
-ghost use Rattle.std.specs.Prelude.{◌≡◌, ◌<◌, length};
+ghost use Rattle.std.specs.Prelude.{◌≡◌, ◌<◌, ◌≤◌, length};
 ghost use Rattle.flow_model.specs.Scheduling.{has_it_after as has_it_after_of, is_at_task as is_at_task_of};
+ghost use Rattle.point_exits.specs.{Levels.{AreAllLevels}, OneProof.{AreAllLevels-prop}};
 
 use crate::group::ExitGroup;
 use crate::levels::Levels;
@@ -18,6 +19,8 @@ pub struct Settling<'a> {
     pub pool: &'a Pool,
     pub levels: &'a Levels,
     pub stay: Stay,
+    ghost all: { AreAllLevels app.now pool.now levels.now } by { AreAllLevels-prop app.now pool.now levels.now },
+    ghost tasks: { length app.now.tasks ≤ length pool.now },
 }
 
 /// Whether a task has the processor after a decision, where it else stays there.
@@ -54,7 +57,7 @@ fn is_at_task(app: &App, point: Point, task: TaskNo) -> bool
 impl<'a> Settling<'a> {
     ghost use Rattle.std.specs.Prelude.{ℕ, ◌≡◌, ◌<◌, ◌≤◌, true, false, length, slice_index_or, IfSome, IfNone, OnOk};
     ghost use Rattle.flow_model.specs.Scheduling.{goes_inside};
-    ghost use Rattle.point_exits.specs.{declared.insides.Insides.{Insides}, Groups.{IsKnownGroup, AreKnownGroups}, Levels.{AreAllLevels}};
+    ghost use Rattle.point_exits.specs.{declared.insides.Insides.{Insides}, Groups.{IsKnownGroup, AreKnownGroups}};
     ghost use Rattle.point_exits.specs.Settling.{IsSettledGroup, AreSettledFrom};
 
     /// Settles the groups from a place on.
@@ -64,10 +67,7 @@ impl<'a> Settling<'a> {
         from: usize,
         groups: &mut Vec<ExitGroup>,
     ) -> Result<(), Memory>
-        requires levels { AreAllLevels self.now.app.now self.now.pool.now self.now.levels.now }
-        requires pool { length self.now.app.now.tasks ≤ length self.now.pool.now }
-        requires known { AreKnownGroups self.now.pool.now groups.old.items }
-        requires from { from ≤ length groups.old.items }
+        requires { AreKnownGroups self.now.pool.now groups.old.items }
         ensures { OnOk result (AreSettledFrom self.now.app.now self.now.pool.now self.now.stay from groups.old.items groups.new.items) }
     {
         if self.levels.insides.is_empty() {
@@ -81,9 +81,7 @@ impl<'a> Settling<'a> {
 
     // a group by which a routine begins stays as it is
     fn settle_group(&self, alloc: Global, group: &mut ExitGroup) -> Result<(), Memory>
-        requires levels { AreAllLevels self.now.app.now self.now.pool.now self.now.levels.now }
-        requires pool { length self.now.app.now.tasks ≤ length self.now.pool.now }
-        requires known { IsKnownGroup self.now.pool.now group.old }
+        requires { IsKnownGroup self.now.pool.now group.old }
         ensures { OnOk result (IsSettledGroup self.now.app.now self.now.pool.now self.now.stay group.old group.new) }
     {
         let Some(decision) = group.decision else {
@@ -97,7 +95,6 @@ impl<'a> Settling<'a> {
 
     // the place of the task that comes in by a decision
     fn entering(&self, decision: Decision) -> Option<usize>
-        requires { AreAllLevels self.now.app.now self.now.pool.now self.now.levels.now }
         ensures known { IfSome result (λ place. place < length self.now.levels.now.insides) }
         ensures goes { IfSome result (λ place. (d : Insides) → goes_inside self.now.app.now self.now.stay decision (slice_index_or self.now.levels.now.insides place d).task.0 ≡ true) }
         ensures none { IfNone result ((c : ℕ) → goes_inside self.now.app.now self.now.stay decision c ≡ false) }

@@ -60,8 +60,9 @@ impl TaskLevels {
         ensures levels { OnOk result (AreTaskLevels app.now task.0 (values_at pool.now task.0) self.new) }
         ensures all { OnOk result (self.new.judged ≡ length (values_at pool.now task.0)) }
     {
-        for _number in self.judged..pool.len(task.index()) {
+        for number in self.judged..pool.len(task.index()) {
             self.judge_next(alloc, app, task, pool)?;
+            self.judged = number + 1;
         }
         Ok(())
     }
@@ -77,19 +78,16 @@ impl TaskLevels {
         requires known { task.0 < length app.now.tasks }
         requires pool { task.0 < length pool.now }
         requires next { self.old.judged < length (values_at pool.now task.0) }
-        requires room { self.old.judged + 1 < 2 ^ 64 }
         requires levels { AreTaskLevels app.now task.0 (values_at pool.now task.0) self.old }
-        ensures levels { OnOk result (AreTaskLevels app.now task.0 (values_at pool.now task.0) self.new) }
-        ensures judged { OnOk result (self.new.judged ≡ self.old.judged + 1) }
+        ensures levels { OnOk result (AreTaskLevels app.now task.0 (values_at pool.now task.0) (with_next self.new)) }
+        ensures judged { OnOk result (self.new.judged ≡ self.old.judged) }
     {
         let component = task.index();
-        let number = self.judged;
         if let Some(place) = self.place_beside(pool, component) {
-            self.put_at(place, number)?;
-            self.judged = number + 1;
-            return Ok(());
+            return self.put_next(place);
         }
-        self.judge(alloc, app, task, &pool.value(component, number))
+        let value = pool.value(component, self.judged);
+        self.judge(alloc, app, task, &value)
     }
 
     // The place of the level of the next value, by what it would be at the block before: there a task mostly held the same.
@@ -127,33 +125,30 @@ impl TaskLevels {
         task: TaskNo,
         value: &PartValue,
     ) -> Result<(), Memory>
-        requires known { task.0 < length app.now.tasks }
-        requires room { self.old.judged + 1 < 2 ^ 64 }
-        ensures levels { OnOk result ((vs : List PartValue) → AreTaskLevels app.now task.0 vs self.old → IsNumberOf vs value.now self.old.judged → AreTaskLevels app.now task.0 vs self.new) }
-        ensures judged { OnOk result (self.new.judged ≡ self.old.judged + 1) }
+        requires { task.0 < length app.now.tasks }
+        ensures levels { OnOk result ((vs : List PartValue) → AreTaskLevels app.now task.0 vs self.old → IsNumberOf vs value.now self.old.judged → AreTaskLevels app.now task.0 vs (with_next self.new)) }
+        ensures judged { OnOk result (self.new.judged ≡ self.old.judged) }
     {
-        let number = self.judged;
         match as_candidate(app, task, value) {
             None => {
-                self.dead.insert(number)?;
+                self.dead.put(self.judged)?;
+                Ok(())
             }
             Some(own) => {
                 let place = self.place_for(alloc, own.priority)?;
-                self.put_at(place, number)?;
+                self.put_next(place)
             }
         }
-        self.judged = number + 1;
-        Ok(())
     }
 
     // puts the next number in the level at a place
-    fn put_at(&mut self, place: usize, number: usize) -> Result<(), Memory>
-        requires known { place < length self.old.levels }
-        requires next { number ≡ self.old.judged }
-        ensures levels { OnOk result ((app : App) (u : ℕ) (vs : List PartValue) (v : PartValue) → AreTaskLevels app u vs self.old → IsNumberOf vs v number →
+    fn put_next(&mut self, place: usize) -> Result<(), Memory>
+        requires { place < length self.old.levels }
+        ensures levels { OnOk result ((app : App) (u : ℕ) (vs : List PartValue) (v : PartValue) → AreTaskLevels app u vs self.old → IsNumberOf vs v self.old.judged →
             ((d : Level) → IsLiveAt app u (slice_index_or self.old.levels place d).priority v) → AreTaskLevels app u vs (with_next self.new)) }
         ensures judged { OnOk result (self.new.judged ≡ self.old.judged) }
     {
+        let number = self.judged;
         let level = self.levels.at_mut(place);
         level.numbers.put(number)?;
         Ok(())

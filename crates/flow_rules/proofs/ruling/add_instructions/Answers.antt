@@ -1,7 +1,7 @@
-use Rattle.std.proofs.Common.{◌≡◌, ◌∙◌, List, sym, ap, subst}
+use Rattle.std.proofs.Common.{◌≡◌, ◌∙◌, List, sym, ap, subst, arith}
 use Rattle.std.specs.Prelude.{Contains}
 use Rattle.std.proofs.lemmas.List.{take_all}
-use Rattle.abstract_state.specs.{Domains.{domains, domains_of}}
+use Rattle.abstract_state.specs.{declared.table.PlainEntry.{PlainEntry}, Domains.{domains, domains_of}}
 use Rattle.flow_model.specs.{declared.case.EffectCase.{EffectCase}, Effects.{AreAllAllowed}}
 use Rattle.numbered_sets.specs.{NumberedEntries.{number_domains}, Pools.{pool_domains}, Views.{plain_entry}}
 use Rattle.numbered_sets.proofs.{ViewLaws.{same_view, still_known, same_domains}, NumberingLaws.{longer_itself, longer_onward}}
@@ -11,9 +11,19 @@ use Rattle.flow_rules.proofs.PointRules.{none_added, added_on}
 use Rattle.flow_rules.specs.Allowed.{IsAllowedPart}
 use Rattle.point_exits.specs.Applying.{KeepsDomains}
 use Rattle.flow_rules.proofs.RuledExits.{rules_added}
-use Rattle.point_exits.proofs.{EffectDomains.{effect_keeps_domains}, EntryCounts.{pool_has_tasks}, OutLaws.{none_out}}
+use Rattle.point_exits.proofs.{EffectDomains.{effect_keeps_domains}, EntryCounts.{numbers_counted, pool_counted, pool_has_tasks}, OutLaws.{none_out}}
 use Rattle.flow_rules.proofs.RuledPoints.{all_allowed, allowed_there, from_domains, from_sound}
 use Rattle.flow_rules.proofs.ruling.add_instructions.Goals as goal
+
+pub plain-requires : goal.plain-requires
+plain-requires c =
+    let sets = numbers_counted c.args.app.now c.args.entry.now c.requires.domains in
+    let pool = pool_counted c.args.app.now c.args.pool.now c.args.entry.now c.requires.domains c.requires.numbers.domains in
+    omega (arith, sets, pool)
+
+pub allowed_part-requires : goal.allowed_part-requires
+allowed_part-requires c =
+    subst (λ (e : PlainEntry). domains e ≡ domains_of c.args.app.now) (sym c.in_ok-whole.ensures) (same_domains c.args.pool.now 0 c.args.entry.now.sets ∙ c.requires.domains)
 
 pub numbered-requires-clause-domains : goal.numbered-requires-clause-domains
 numbered-requires-clause-domains c =
@@ -22,7 +32,7 @@ numbered-requires-clause-domains c =
     let pool = c.args.pool.now in
     let entry = c.args.entry.now in
     let from = c.in_ok-from.from in
-    let part : IsAllowedPart app p (plain_entry pool entry) from = c.in_ok-from.ensures in
+    let part = subst (λ (e : PlainEntry). IsAllowedPart app p e from) c.in_ok-whole.ensures c.in_ok-from.ensures in
     from_domains app p pool entry from c.requires.domains c.are_values.ensures c.requires.numbers part ∙ ap pool_domains (sym c.in_ok-grown.ensures)
 
 pub numbered-requires-clause-sound : goal.numbered-requires-clause-sound
@@ -32,7 +42,7 @@ numbered-requires-clause-sound c =
     let pool = c.args.pool.now in
     let entry = c.args.entry.now in
     let from = c.in_ok-from.from in
-    let part : IsAllowedPart app p (plain_entry pool entry) from = c.in_ok-from.ensures in
+    let part = subst (λ (e : PlainEntry). IsAllowedPart app p e from) c.in_ok-whole.ensures c.in_ok-from.ensures in
     from_sound app p pool entry from c.requires.domains c.are_values.ensures c.requires.numbers part
 
 pub new-requires : goal.new-requires
@@ -48,9 +58,11 @@ add_effect-requires-clause-plain c =
 pub add_effect-requires-clause-numbers : goal.add_effect-requires-clause-numbers
 add_effect-requires-clause-numbers c = still_known c.numbered.new.pool c.loop-effect.grown c.in_ok-numbers.numbers c.loop-effect.invariant.longer c.in_ok-numbers.ensures.numbers
 
-pub add_effect-requires-clause-domains : goal.add_effect-requires-clause-domains
-add_effect-requires-clause-domains c =
-    c.in_ok-numbers.ensures.numbers.domains ∙ c.in_ok-numbers.ensures.pool.domains ∙ ap pool_domains c.in_ok-grown.ensures ∙ sym c.requires.numbers.domains ∙ c.requires.domains
+pub invariant_of-ruled : goal.invariant_of-ruled
+invariant_of-ruled c =
+    let alike : number_domains c.in_ok-numbers.numbers ≡ domains_of c.args.app.now =
+    c.in_ok-numbers.ensures.numbers.domains ∙ c.in_ok-numbers.ensures.pool.domains ∙ ap pool_domains c.in_ok-grown.ensures ∙ sym c.requires.numbers.domains ∙ c.requires.domains in
+    record { alike = alike; from_alike = ap domains (sym c.in_ok-numbers.ensures.plain) ∙ same_domains c.numbered.new.pool 0 c.in_ok-numbers.numbers.sets ∙ alike }
 
 pub add_effect-requires-clause-levels : goal.add_effect-requires-clause-levels
 add_effect-requires-clause-levels c = c.loop-effect.invariant.levels
@@ -65,7 +77,7 @@ add_effect-requires-clause-kept c =
     let numbers = c.in_ok-numbers.numbers in
     let grown = c.numbered.new.pool in
     let x = c.effect-item.result in
-    let part : IsAllowedPart app p (plain_entry pool entry) from = c.in_ok-from.ensures in
+    let part = subst (λ (e : PlainEntry). IsAllowedPart app p e from) c.in_ok-whole.ensures c.in_ok-from.ensures in
     let allowed : AreAllAllowed app p (plain_entry grown numbers) = subst (AreAllAllowed app p) (sym c.in_ok-numbers.ensures.plain) (all_allowed app p pool entry from c.requires.domains c.are_values.ensures c.requires.numbers part) in
     let alike : number_domains numbers ≡ domains_of app =
     c.in_ok-numbers.ensures.numbers.domains ∙ c.in_ok-numbers.ensures.pool.domains ∙ ap pool_domains c.in_ok-grown.ensures ∙ sym c.requires.numbers.domains ∙ c.requires.domains in
@@ -89,7 +101,7 @@ loop-effect-preserved c =
     let entry = c.args.entry.now in
     let from = c.in_ok-from.from in
     let x = c.effect-item.result in
-    let part : IsAllowedPart app p (plain_entry pool entry) from = c.in_ok-from.ensures in
+    let part = subst (λ (e : PlainEntry). IsAllowedPart app p e from) c.in_ok-whole.ensures c.in_ok-from.ensures in
     record {
       added = added_on app p (plain_entry pool entry) c.as_slice-effect-items.result.now c.loop-effect.effect-index x c.args.rules.now c.loop-effect.rules c.add_effect.new.rules
           c.loop-effect-test.true (sym c.effect-item.is) c.loop-effect.invariant.added

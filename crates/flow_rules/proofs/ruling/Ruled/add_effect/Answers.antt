@@ -5,7 +5,6 @@ use Rattle.abstract_state.specs.{declared.table.PlainEntry.{PlainEntry}, Compone
 use Rattle.osek_standard.proofs.Members.{contained_among}
 use Rattle.flow_model.specs.{declared.{case.OutcomeCase.{OutcomeCase}, change.Change.{Change}}, Rules.{Applies, HasNone}}
 use Rattle.numbered_sets.specs.{declared.numbered_entry.NumberedEntry.{NumberedEntry}, Views.{plain_entry}}
-use Rattle.numbered_sets.proofs.ViewLaws.{same_domains}
 use Rattle.flow_exits.specs.Leaving.{effect_rule}
 use Rattle.flow_rules.specs.{Assembly.{rule_of}, Ruling.{outcomes_by}}
 use Rattle.point_exits.specs.{declared.group.ExitGroup.{ExitGroup}, Groups.{all_exits, AreKnownGroups}, Deciding.{AddsFor, IsAny}, Leaving.{IsAfter}}
@@ -13,13 +12,10 @@ use Rattle.flow_rules.proofs.RuledExits.{exits_ruled, none_ruled}
 use Rattle.point_exits.proofs.{EntryCounts.{sets_counted}, SettledGroups.{decided_known}}
 use Rattle.flow_rules.proofs.ruling.Ruled.add_effect.Goals as goal
 
-pub outcomes-requires : goal.outcomes-requires
-outcomes-requires c = ap domains (sym c.requires.plain) ∙ same_domains c.args.pool.now 0 c.args.self.now.numbers.now.sets ∙ c.requires.domains
-
-pub push_decided-requires : goal.push_decided-requires
-push_decided-requires c =
+pub invariant_of-values : goal.invariant_of-values
+invariant_of-values c =
     let is = subst (λ (o : Option NumberedEntry). IfSome o (IsAfter c.args.self.now.app.now c.args.effect.now c.args.self.now.numbers.now c.args.pool.now c.after.new.pool c.after.new.levels)) c.in-Some.is c.in_ok-after.ensures.some in
-    record { stay = c.requires.stays; levels = is.all; whole = is.whole }
+    record { decidable = record { stay = c.requires.stays; levels = is.all; whole = is.whole } }
 
 pub exits-requires : goal.exits-requires
 exits-requires c =
@@ -33,7 +29,7 @@ returns-in_default-clause-added c =
     let app = c.args.self.now.app.now in
     let pool = c.args.pool.now in
     let rule = effect_rule c.args.effect.now in
-    let size = sets_counted app pool c.args.self.now.numbers.now c.requires.domains in
+    let size = sets_counted app pool c.args.self.now.numbers.now c.args.self.now.alike in
     let none : HasNone rule (plain_entry pool c.args.self.now.numbers.now) = subst (λ (o : Option NumberedEntry). IfNone o (HasNone rule (plain_entry pool c.args.self.now.numbers.now))) c.in_default.is c.in_ok-after.ensures.none in
     none_ruled app c.args.self.now.from.now c.args.effect.now c.args.rules.now (subst (λ (e : PlainEntry). length e.sets ≡ component_count app) c.requires.plain size) (subst (HasNone rule) c.requires.plain none)
 
@@ -50,7 +46,7 @@ returns-clause-added c =
     let exits = c.in_ok-exits.exits in
     let is = subst (λ (o : Option NumberedEntry). IfSome o (IsAfter app effect c.args.self.now.numbers.now pool after c.after.new.levels)) c.in-Some.is c.in_ok-after.ensures.some in
     let h : AddsFor app after effect.leaving made IsAny [] groups = subst (λ (gs : List ExitGroup). AddsFor app after effect.leaving made IsAny gs groups) c.new-groups.ensures.items c.in_ok-push_decided.ensures in
-    let size = subst (λ (e : PlainEntry). length e.sets ≡ component_count app) c.requires.plain (sets_counted app pool c.args.self.now.numbers.now c.requires.domains) in
+    let size = subst (λ (e : PlainEntry). length e.sets ≡ component_count app) c.requires.plain (sets_counted app pool c.args.self.now.numbers.now c.args.self.now.alike) in
     let applies = subst (λ (e : PlainEntry). Applies (effect_rule effect) e (plain_entry after made)) c.requires.plain is.applies in
     let cases_are : c.as_slice-3.result.now ≡ flat_map (outcomes_by app effect.changes from) exits =
     c.as_slice-3.ensures ∙ c.in_ok-outcomes.ensures ∙ ap (λ (xs : List Change). flat_map (outcomes_by app xs from) c.as_slice-2.result.now) c.as_slice-changes.ensures ∙ ap (flat_map (outcomes_by app effect.changes from)) c.as_slice-2.ensures in

@@ -13,7 +13,7 @@ pub at_blocks-requires-clause-known : goal.at_blocks-requires-clause-known
 at_blocks-requires-clause-known c =
     let app = c.args.self.now.app.now in
     let r = c.in-AtBlockOf.runner in
-    let counted : component_of r < component_count app = runner_counted app r (subst (IsKnownStay app) c.in-AtBlockOf.is c.requires.decidable.stay) in
+    let counted : component_of r < component_count app = runner_counted app r (subst (IsKnownStay app) c.in-AtBlockOf.is c.args.self.now.decidable.stay) in
     omega (arith, counted, c.requires.whole.size)
 
 pub at_blocks-requires-in-To-Some-clause-known : goal.at_blocks-requires-in-To-Some-clause-known

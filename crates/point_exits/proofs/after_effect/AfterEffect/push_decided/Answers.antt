@@ -1,5 +1,5 @@
 use Rattle.point_exits.proofs.WholeLaws.{vacant_by}
 use Rattle.point_exits.proofs.after_effect.AfterEffect.push_decided.Goals as goal
 
-pub push_vacant-requires-clause-vacant : goal.push_vacant-requires-clause-vacant
-push_vacant-requires-clause-vacant c = vacant_by c.args.self.leaving.asked c.in-Left.is
+pub push_vacant-requires : goal.push_vacant-requires
+push_vacant-requires c = vacant_by c.args.self.leaving.asked c.in-Left.is

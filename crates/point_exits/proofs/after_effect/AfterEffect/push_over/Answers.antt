@@ -6,17 +6,17 @@ use Rattle.point_exits.proofs.WholeLaws.{narrowed_live, whole_live, all_alive, u
 use Rattle.point_exits.proofs.after_effect.AfterEffect.push_over.Goals as goal
 
 pub returns-then-index-len : goal.returns-then-index-len
-returns-then-index-len c = (let x = c.args.self in unknown_task x.app.now x.pool.now x.leaving x.after c.args.task c.requires.running (omega arith) c.args.groups.now.items)
+returns-then-index-len c = (let x = c.args.self in unknown_task x.app.now x.pool.now x.leaving x.after c.args.task c.requires (omega arith) c.args.groups.now.items)
 
 pub of-requires : goal.of-requires
-of-requires c = (let x = c.args.self in own_known x.app.now x.pool.now x.levels.now c.args.task.0 (omega arith) c.requires.decidable.levels)
+of-requires c = (let x = c.args.self in own_known x.app.now x.pool.now x.levels.now c.args.task.0 (omega arith) c.args.self.decidable.levels)
 
 pub keep_live-requires : goal.keep_live-requires
 keep_live-requires c =
     let app = c.args.self.app.now in
     let known : c.args.task.0 < length app.tasks = omega arith in
     let counted = tasks_counted app in
-    let size = c.requires.decidable.whole.size in
+    let size = c.args.self.decidable.whole.size in
     omega (arith, known, counted, size)
 
 pub returns-then-not-is_filled : goal.returns-then-not-is_filled
@@ -25,22 +25,24 @@ returns-then-not-is_filled c =
     let t = c.args.task in
     let live = c.keep_live.new.entry in
     let known : t.0 < length x.app.now.tasks = omega arith in
-    let narrowed = narrowed_live x.app.now x.pool.now x.levels.now t.0 known c.requires.decidable.levels c.of.result.now c.of.ensures x.after live c.requires.decidable.whole.numbers c.keep_live.ensures in
+    let narrowed = narrowed_live x.app.now x.pool.now x.levels.now t.0 known c.args.self.decidable.levels c.of.result.now c.of.ensures x.after live c.args.self.decidable.whole.numbers c.keep_live.ensures in
     let empty = subst (λ (b : Bool). OnFalse b (HasEmptySet live)) c.if-not-is_filled.true c.is_filled.ensures.none in
-    never_runs x.app.now x.pool.now x.leaving x.after t c.requires.running live known narrowed c.requires.decidable.whole.filled empty c.args.groups.now.items
+    never_runs x.app.now x.pool.now x.leaving x.after t c.requires live known narrowed c.args.self.decidable.whole.filled empty c.args.groups.now.items
 
-pub push_running-requires-clause-decidable : goal.push_running-requires-clause-decidable
-push_running-requires-clause-decidable c =
+pub invariant_of-running : goal.invariant_of-running
+invariant_of-running c =
     let x = c.args.self in
     let t = c.args.task in
     let live = c.keep_live.new.entry in
     let known : t.0 < length x.app.now.tasks = omega arith in
-    let narrowed = narrowed_live x.app.now x.pool.now x.levels.now t.0 known c.requires.decidable.levels c.of.result.now c.of.ensures x.after live c.requires.decidable.whole.numbers c.keep_live.ensures in
+    let narrowed = narrowed_live x.app.now x.pool.now x.levels.now t.0 known c.args.self.decidable.levels c.of.result.now c.of.ensures x.after live c.args.self.decidable.whole.numbers c.keep_live.ensures in
     let filled = subst (λ (b : Bool). OnTrue b (AreFilled live)) c.if-not-is_filled.false c.is_filled.ensures.filled in
     record {
-      stay = c.requires.decidable.stay;
-      levels = c.requires.decidable.levels;
-      whole = whole_live x.app.now x.pool.now x.after live t.0 known narrowed c.requires.decidable.whole filled;
+      decidable = record {
+        stay = x.decidable.stay;
+        levels = x.decidable.levels;
+        whole = whole_live x.app.now x.pool.now x.after live t.0 known narrowed x.decidable.whole filled;
+      };
     }
 
 pub push_running-requires-clause-alive : goal.push_running-requires-clause-alive
@@ -49,7 +51,7 @@ push_running-requires-clause-alive c =
     let t = c.args.task in
     let live = c.keep_live.new.entry in
     let known : t.0 < length x.app.now.tasks = omega arith in
-    let narrowed = narrowed_live x.app.now x.pool.now x.levels.now t.0 known c.requires.decidable.levels c.of.result.now c.of.ensures x.after live c.requires.decidable.whole.numbers c.keep_live.ensures in
+    let narrowed = narrowed_live x.app.now x.pool.now x.levels.now t.0 known c.args.self.decidable.levels c.of.result.now c.of.ensures x.after live c.args.self.decidable.whole.numbers c.keep_live.ensures in
     all_alive x.app.now x.pool.now x.after live t.0 known narrowed
 
 pub returns : goal.returns
@@ -58,5 +60,5 @@ returns c =
     let t = c.args.task in
     let live = c.keep_live.new.entry in
     let known : t.0 < length x.app.now.tasks = omega arith in
-    let narrowed = narrowed_live x.app.now x.pool.now x.levels.now t.0 known c.requires.decidable.levels c.of.result.now c.of.ensures x.after live c.requires.decidable.whole.numbers c.keep_live.ensures in
-    live_adds x.app.now x.pool.now x.leaving x.after t c.requires.running live known narrowed c.args.groups.now.items c.push_running.new.groups.items c.in_ok-push_running.ensures
+    let narrowed = narrowed_live x.app.now x.pool.now x.levels.now t.0 known c.args.self.decidable.levels c.of.result.now c.of.ensures x.after live c.args.self.decidable.whole.numbers c.keep_live.ensures in
+    live_adds x.app.now x.pool.now x.leaving x.after t c.requires live known narrowed c.args.groups.now.items c.push_running.new.groups.items c.in_ok-push_running.ensures

@@ -1,19 +1,18 @@
 use Rattle.std.proofs.Common.{sym, subst}
-use Rattle.point_exits.specs.{Deciding.{IsAsked}, AfterEffect.{AreNeedsOf}}
+use Rattle.point_exits.specs.Deciding.{IsAsked}
 use Rattle.point_exits.proofs.WholeLaws.{running_adds}
 use Rattle.point_exits.proofs.after_effect.AfterEffect.push_running.Goals as goal
 
+pub invariant_of-contest : goal.invariant_of-contest
+invariant_of-contest c =
+    let x = c.args.self.now in
+    record {
+      needed = c.in_ok-needs.ensures;
+      asked = subst (IsAsked x.app.now x.pool.now x.after) (sym c.requires.running) c.requires.alive;
+    }
+
 pub push_keepers-requires-clause-known : goal.push_keepers-requires-clause-known
 push_keepers-requires-clause-known c = c.requires.alive.known
-
-pub push_keepers-requires-clause-needs : goal.push_keepers-requires-clause-needs
-push_keepers-requires-clause-needs c = subst (AreNeedsOf c.args.self.now) (sym c.as_slice.ensures) c.in_ok-needs.ensures
-
-pub push_winners-requires-clause-needs : goal.push_winners-requires-clause-needs
-push_winners-requires-clause-needs c = subst (AreNeedsOf c.args.self.now) (sym c.as_slice-2.ensures) c.in_ok-needs.ensures
-
-pub push_winners-requires-clause-asked : goal.push_winners-requires-clause-asked
-push_winners-requires-clause-asked c = (let x = c.args.self.now in subst (IsAsked x.app.now x.pool.now x.after) (sym c.requires.running) c.requires.alive)
 
 pub returns : goal.returns
 returns c =

@@ -9,5 +9,5 @@ pub returns : goal.returns
 returns c =
     let x = c.args.self in
     let one : AddsOne x.pool.now x.leaving decision.Keep x.after c.args.groups.now.items c.push.new.self.items = record { group = record { decision = Some decision.Keep; status = x.leaving.status; entry = x.after; ends = c.in_ok-ends.ends }; added = c.in_ok-push.ensures.items; decision = refl; status = refl; numbers = refl; ends = c.in_ok-ends.ensures } in
-    adds_group x.app.now x.pool.now x.leaving x.after IsAny decision.Keep c.args.groups.now.items c.requires.decidable.stay tt x.after c.push.new.self.items c.requires.decidable.whole
-    (unasked_group x.app.now x.pool.now x.leaving x.after c.requires.unasked) one
+    adds_group x.app.now x.pool.now x.leaving x.after IsAny decision.Keep c.args.groups.now.items c.args.self.decidable.stay tt x.after c.push.new.self.items c.args.self.decidable.whole
+    (unasked_group x.app.now x.pool.now x.leaving x.after c.requires) one

@@ -45,17 +45,18 @@ pub push_end-requires-clause-kept : goal.push_end-requires-clause-kept
 push_end-requires-clause-kept c =
     let x = c.rule-item.result in
     let listed = subst (λ (xs : List Rule). Contains xs x) c.as_slice-rule-items.ensures (c.loop-rule.rule-index, c.loop-rule-test.true, sym c.rule-item.is) in
-    keeps c.args.self.now.app.now c.args.self.now.point c.args.pool.now c.loop-rule.pool c.args.self.now.entry.now c.args.rules.now c.requires.rules c.requires.point c.requires.numbers c.requires.domains c.requires.allowed c.loop-rule.invariant.added.longer x listed
+    keeps c.args.self.now.app.now c.args.self.now.point c.args.pool.now c.loop-rule.pool c.args.self.now.entry.now c.args.rules.now c.requires.rules c.requires.point c.requires.numbers c.args.self.now.domains c.requires.allowed c.loop-rule.invariant.added.longer x listed
 
-pub push_end-requires-clause-bare : goal.push_end-requires-clause-bare
-push_end-requires-clause-bare c = sym c.is_bare.ensures ∙ c.if-is_bare.true
-
-pub push_end-requires-clause-known : goal.push_end-requires-clause-known
-push_end-requires-clause-known c =
+pub invariant_of-bare : goal.invariant_of-bare
+invariant_of-bare c =
     let x = c.rule-item.result in
     let listed = subst (λ (xs : List Rule). Contains xs x) c.as_slice-rule-items.ensures (c.loop-rule.rule-index, c.loop-rule-test.true, sym c.rule-item.is) in
-    its_component c.args.self.now.app.now c.args.self.now.point c.args.pool.now c.loop-rule.pool c.args.self.now.entry.now c.args.rules.now c.requires.rules c.requires.point c.requires.numbers c.requires.domains c.requires.allowed c.loop-rule.invariant.added.longer
-    x listed
+    record {
+      bare = sym c.is_bare.ensures ∙ c.if-is_bare.true;
+      known = its_component c.args.self.now.app.now c.args.self.now.point c.args.pool.now c.loop-rule.pool c.args.self.now.entry.now c.args.rules.now c.requires.rules c.requires.point c.requires.numbers c.args.self.now.domains
+          c.requires.allowed c.loop-rule.invariant.added.longer x listed;
+      filled = c.args.self.now.filled;
+    }
 
 pub push_arrival-requires-clause-numbers : goal.push_arrival-requires-clause-numbers
 push_arrival-requires-clause-numbers c = still_known c.args.pool.now c.loop-rule.pool c.args.self.now.entry.now c.loop-rule.invariant.added.longer c.requires.numbers
@@ -64,7 +65,7 @@ pub push_arrival-requires-clause-kept : goal.push_arrival-requires-clause-kept
 push_arrival-requires-clause-kept c =
     let x = c.rule-item.result in
     let listed = subst (λ (xs : List Rule). Contains xs x) c.as_slice-rule-items.ensures (c.loop-rule.rule-index, c.loop-rule-test.true, sym c.rule-item.is) in
-    keeps c.args.self.now.app.now c.args.self.now.point c.args.pool.now c.loop-rule.pool c.args.self.now.entry.now c.args.rules.now c.requires.rules c.requires.point c.requires.numbers c.requires.domains c.requires.allowed c.loop-rule.invariant.added.longer x listed
+    keeps c.args.self.now.app.now c.args.self.now.point c.args.pool.now c.loop-rule.pool c.args.self.now.entry.now c.args.rules.now c.requires.rules c.requires.point c.requires.numbers c.args.self.now.domains c.requires.allowed c.loop-rule.invariant.added.longer x listed
 
 pub push_arrival-requires-clause-known : goal.push_arrival-requires-clause-known
 push_arrival-requires-clause-known c = c.loop-rule.invariant.added.known
@@ -115,7 +116,7 @@ loop-rule-preserved c =
           let more = w.push_arrival.new.groups.items in
           let is : is_bare x ≡ false = sym c.is_bare.ensures ∙ w.if-is_bare.false in
           let adds : AddsRoutines app p plain (λ (r : Rule). r ≡ x) grown mid after more =
-          subst (λ (e : PlainEntry). AddsRoutines app p e (λ (r : Rule). r ≡ x) grown mid after more) view (w.in_ok-push_arrival.ensures.added app p (c.requires.rules.each x listed_here) c.requires.domains) in
+          subst (λ (e : PlainEntry). AddsRoutines app p e (λ (r : Rule). r ≡ x) grown mid after more) view (w.in_ok-push_arrival.ensures.added app p (c.requires.rules.each x listed_here) c.args.self.now.domains) in
           let done : now after more ends = record {
             added = routines_then app p plain (IsAmongFirst rules i false) (λ (r : Rule). r ≡ x) (IsAmongFirst rules (i + 1) false) (among_either rules i x lt at false) pool grown after first mid more inv.added adds;
             shared = ends_same rules i x lt at entry pool grown after w.push_arrival.ensures.pool here ends inv.shared ends refl is;
@@ -145,7 +146,7 @@ returns-clause-added c =
     let inv : AreBegun app p entry rules i pool first grown mid ends = subst (λ (xs : List Rule). AreBegun app p entry xs i pool first grown mid ends) c.as_slice-rule-items.ensures c.loop-rule.invariant in
     let past : length rules ≤ i = subst (λ (xs : List Rule). length xs ≤ i) c.as_slice-rule-items.ensures c.loop-rule-test.false in
     let shared : AddsRoutines app p plain (IsAmongFirst rules (length rules) true) grown mid grown now =
-    c.in_ok-push_shared.ensures app p pool grown rules are c.requires.domains inv.added.longer c.requires.numbers inv.added.known (ends_whole rules i entry pool grown ends past inv.shared) in
+    c.in_ok-push_shared.ensures app p pool grown rules are c.args.self.now.domains inv.added.longer c.requires.numbers inv.added.known (ends_whole rules i entry pool grown ends past inv.shared) in
     record {
       rules = rules;
       are = are;

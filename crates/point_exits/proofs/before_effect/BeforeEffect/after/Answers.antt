@@ -11,10 +11,10 @@ pub returns-in_default-clause-levels : goal.returns-in_default-clause-levels
 returns-in_default-clause-levels c = levels_longer c.args.self.now.app.now c.args.pool.now c.applied.new.pool c.args.levels.now c.applied.ensures.pool c.requires.levels
 
 pub renew-requires-clause-pool : goal.renew-requires-clause-pool
-renew-requires-clause-pool c = pool_has_tasks c.args.self.now.app.now c.applied.new.pool c.args.self.now.before.now c.requires.domains (c.requires.numbers.domains ∙ sym c.applied.ensures.pool.domains)
+renew-requires-clause-pool c = pool_has_tasks c.args.self.now.app.now c.applied.new.pool c.args.self.now.before.now c.args.self.now.domains (c.requires.numbers.domains ∙ sym c.applied.ensures.pool.domains)
 
 pub renew-requires-clause-domains : goal.renew-requires-clause-domains
-renew-requires-clause-domains c = task_domains c.args.self.now.app.now c.applied.new.pool c.args.self.now.before.now c.requires.domains (c.requires.numbers.domains ∙ sym c.applied.ensures.pool.domains)
+renew-requires-clause-domains c = task_domains c.args.self.now.app.now c.applied.new.pool c.args.self.now.before.now c.args.self.now.domains (c.requires.numbers.domains ∙ sym c.applied.ensures.pool.domains)
 
 pub renew-requires-clause-levels : goal.renew-requires-clause-levels
 renew-requires-clause-levels c = levels_longer c.args.self.now.app.now c.args.pool.now c.applied.new.pool c.args.levels.now c.applied.ensures.pool c.requires.levels
@@ -31,13 +31,13 @@ returns-clause-some c =
     let applies : Applies rule (plain_entry pool entry) (plain_entry mid made) = subst (λ (o : Option NumberedEntry). IfSome o (λ new. Applies rule (plain_entry pool entry) (plain_entry mid new))) c.in-Some.is c.in_ok-after.ensures.some in
     let known : AreNumbersOf mid made = subst (λ (o : Option NumberedEntry). IfSome o (AreNumbersOf mid)) c.in-Some.is c.in_ok-after.ensures.numbers in
     let same : number_domains made ≡ number_domains entry = known.domains ∙ c.applied.ensures.pool.domains ∙ sym c.requires.numbers.domains in
-    let size = numbers_counted app made (same ∙ c.requires.domains) in
+    let size = numbers_counted app made (same ∙ c.args.self.now.domains) in
     record {
       all = c.in_ok-renew.ensures.levels;
       whole = record {
         size = omega (arith, size);
         numbers = still_known mid after made c.renew.ensures.pool known;
-        filled = applied_filled app rule pool mid entry made c.requires.domains same applies;
+        filled = applied_filled app rule pool mid entry made c.args.self.now.domains same applies;
       };
       applies = subst (Applies rule (plain_entry pool entry)) (sym (same_view mid after made c.renew.ensures.pool known)) applies;
     }

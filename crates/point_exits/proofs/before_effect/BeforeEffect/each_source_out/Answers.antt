@@ -14,20 +14,20 @@ use Rattle.point_exits.proofs.before_effect.BeforeEffect.each_source_out.Goals a
 pub overflow_sub-first : goal.overflow_sub-first
 overflow_sub-first c =
     let app = c.args.self.now.app.now in
-    omega (arith, c.len.ensures, c.len-2.ensures, c.len-3.ensures, numbers_counted app c.args.self.now.before.now c.requires.domains, sources_last app)
+    omega (arith, c.len.ensures, c.len-2.ensures, c.len-3.ensures, numbers_counted app c.args.self.now.before.now c.args.self.now.domains, sources_last app)
 
 pub may_pass_alone-may_be_in-requires-clause-set : goal.may_pass_alone-may_be_in-requires-clause-set
 may_pass_alone-may_be_in-requires-clause-set c =
     let app = c.args.self.now.app.now in
-    let sets = numbers_counted app c.args.self.now.before.now c.requires.domains in
+    let sets = numbers_counted app c.args.self.now.before.now c.args.self.now.domains in
     omega (arith, c.len.ensures, c.len-2.ensures, c.len-3.ensures, c.loop-source-test.true, sets, sources_last app)
 
 pub may_pass_alone-may_be_in-requires-clause-values : goal.may_pass_alone-may_be_in-requires-clause-values
 may_pass_alone-may_be_in-requires-clause-values c =
     let app = c.args.self.now.app.now in
     let entry = c.args.self.now.before.now in
-    let pool = pool_counted app c.args.pool.now entry c.requires.domains c.requires.numbers.domains in
-    let sets = numbers_counted app entry c.requires.domains in
+    let pool = pool_counted app c.args.pool.now entry c.args.self.now.domains c.requires.domains in
+    let sets = numbers_counted app entry c.args.self.now.domains in
     omega (arith, c.len.ensures, c.len-2.ensures, c.len-3.ensures, c.loop-source-test.true, pool, sets, sources_last app)
 
 pub loop-source-init : goal.loop-source-init
@@ -47,7 +47,7 @@ loop-source-preserved c =
     let outs = c.loop-source.outs in
     let may_be_in = c.may_pass_alone-may_be_in.result in
     let is_out = not may_be_in in
-    let sets = numbers_counted app entry c.requires.domains in
+    let sets = numbers_counted app entry c.args.self.now.domains in
     let last = sources_last app in
     let behind = number_behind app k in
     let z : ℕ = c.len-3.result - (c.len.result + c.len-2.result) + k in
@@ -56,5 +56,5 @@ loop-source-preserved c =
       size = (let long = ap (λ (xs : List Bool). length xs) c.in_ok-push.ensures.ok ∙ length-append outs (is_out ∷ []) in omega (arith, long, c.loop-source.invariant.size));
       out = subst (λ (xs : List Bool). AreOutIn app xs plain) (sym c.in_ok-push.ensures.ok)
           (out_more app plain outs k is_out c.loop-source.invariant.size c.loop-source.invariant.out (λ e value within.
-          subst (λ (n : ℕ). value n ≡ OfSource source_val.Out) place (out_alone app pool entry c.requires.domains z (OnTrue_at e (out_if pool z entry may_be_in c.may_pass_alone-may_be_in.ensures)) value within)));
+          subst (λ (n : ℕ). value n ≡ OfSource source_val.Out) place (out_alone app pool entry c.args.self.now.domains z (OnTrue_at e (out_if pool z entry may_be_in c.may_pass_alone-may_be_in.ensures)) value within)));
     }

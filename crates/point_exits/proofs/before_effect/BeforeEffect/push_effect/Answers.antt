@@ -6,7 +6,7 @@ use Rattle.numbered_sets.specs.{declared.numbered_entry.NumberedEntry.{NumberedE
 use Rattle.flow_exits.specs.Leaving.{effect_rule}
 use Rattle.point_exits.specs.{Deciding.{AddsFor, IsAny}, Leaving.{IsAfter}, Settling.{AreSettledFrom}}
 use Rattle.point_exits.proofs.{GrowingPools.{groups_known}, EntryCounts.{sets_counted, pool_has_tasks}, AddingEffects.{effect_added, effect_skipped}}
-use Rattle.point_exits.proofs.SettledGroups.{decided_known, decided_more, settled_decided, settled_groups_known}
+use Rattle.point_exits.proofs.SettledGroups.{decided_known, settled_decided, settled_groups_known}
 use Rattle.point_exits.proofs.before_effect.BeforeEffect.push_effect.Goals as goal
 
 pub returns-in_default-clause-added : goal.returns-in_default-clause-added
@@ -15,31 +15,26 @@ returns-in_default-clause-added c =
     let pool = c.args.pool.now in
     let entry = plain_entry pool c.args.self.now.before.now in
     let none : HasNone (effect_rule c.args.effect.now) entry = subst (λ (o : Option NumberedEntry). IfNone o (HasNone (effect_rule c.args.effect.now) entry)) c.in_default.is c.in_ok-after.ensures.none in
-    effect_skipped app entry (sets_counted app pool c.args.self.now.before.now c.requires.domains) c.args.effect.now pool c.after.new.pool c.after.ensures.pool c.args.groups.now.items c.args.groups.now.items c.requires.known
+    effect_skipped app entry (sets_counted app pool c.args.self.now.before.now c.args.self.now.domains) c.args.effect.now pool c.after.new.pool c.after.ensures.pool c.args.groups.now.items c.args.groups.now.items c.requires.known
     none
 
-pub push_decided-requires : goal.push_decided-requires
-push_decided-requires c =
+pub invariant_of-values : goal.invariant_of-values
+invariant_of-values c =
     let is = subst (λ (o : Option NumberedEntry). IfSome o (IsAfter c.args.self.now.app.now c.args.effect.now c.args.self.now.before.now c.args.pool.now c.after.new.pool c.after.new.levels)) c.in-Some.is c.in_ok-after.ensures.some in
-    record { stay = c.requires.stays; levels = is.all; whole = is.whole }
+    record { decidable = record { stay = c.requires.stays; levels = is.all; whole = is.whole } }
 
-pub settle-requires-clause-levels : goal.settle-requires-clause-levels
-settle-requires-clause-levels c =
+pub invariant_of-settling : goal.invariant_of-settling
+invariant_of-settling c =
     let is = subst (λ (o : Option NumberedEntry). IfSome o (IsAfter c.args.self.now.app.now c.args.effect.now c.args.self.now.before.now c.args.pool.now c.after.new.pool c.after.new.levels)) c.in-Some.is c.in_ok-after.ensures.some in
-    is.all
+    record {
+      all = is.all;
+      tasks = pool_has_tasks c.args.self.now.app.now c.after.new.pool c.args.self.now.before.now c.args.self.now.domains (c.requires.numbers.domains ∙ sym c.after.ensures.pool.domains);
+    }
 
-pub settle-requires-clause-pool : goal.settle-requires-clause-pool
-settle-requires-clause-pool c = pool_has_tasks c.args.self.now.app.now c.after.new.pool c.args.self.now.before.now c.requires.domains (c.requires.numbers.domains ∙ sym c.after.ensures.pool.domains)
-
-pub settle-requires-clause-known : goal.settle-requires-clause-known
-settle-requires-clause-known c =
+pub settle-requires : goal.settle-requires
+settle-requires c =
     decided_known c.args.self.now.app.now c.after.new.pool c.args.effect.now.leaving c.in-Some.after c.args.groups.now.items c.push_decided.new.groups.items c.in_ok-push_decided.ensures
     (groups_known c.args.pool.now c.after.new.pool c.after.ensures.pool c.args.groups.now.items c.requires.known)
-
-pub settle-requires-clause-from : goal.settle-requires-clause-from
-settle-requires-clause-from c =
-    let more = decided_more c.args.self.now.app.now c.after.new.pool c.args.effect.now.leaving c.in-Some.after c.args.groups.now.items c.push_decided.new.groups.items c.in_ok-push_decided.ensures in
-    omega (arith, more, c.len-from.ensures)
 
 pub returns-clause-added : goal.returns-clause-added
 returns-clause-added c =
@@ -58,6 +53,6 @@ returns-clause-added c =
     let size : length before ≡ c.len-from.result = omega (arith, c.len-from.ensures, c.args.groups.now.ok.0) in
     on_ok_weaker c.settle.result
     (λ s. (let t : AreSettledFrom app after effect.leaving.stay (length before) now settled = subst (λ n. AreSettledFrom app after effect.leaving.stay n now settled) (sym size) s in
-    effect_added app entry (sets_counted app pool c.args.self.now.before.now c.requires.domains) effect pool after c.after.ensures.pool before settled c.requires.known made is.applies
+    effect_added app entry (sets_counted app pool c.args.self.now.before.now c.args.self.now.domains) effect pool after c.after.ensures.pool before settled c.requires.known made is.applies
     (settled_groups_known app after effect.leaving made before now settled h t known)
     (settled_decided app after effect.leaving made before now settled h t known))) c.settle.ensures

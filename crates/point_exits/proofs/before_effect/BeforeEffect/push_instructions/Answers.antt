@@ -21,7 +21,7 @@ push_effect-requires-clause-kept c =
     let pool = c.args.pool.now in
     let entry = c.args.self.now.before.now in
     let x = c.effect-item.result in
-    let alike : domains (plain_entry pool entry) ≡ domains_of c.args.self.now.app.now = same_domains pool 0 entry.sets ∙ c.requires.domains in
+    let alike : domains (plain_entry pool entry) ≡ domains_of c.args.self.now.app.now = same_domains pool 0 entry.sets ∙ c.args.self.now.domains in
     let listed = subst (λ (xs : List EffectCase). Contains xs x) c.as_slice-effect-items.ensures (c.loop-effect.effect-index, c.loop-effect-test.true, sym c.effect-item.is) in
     subst (KeepsDomains (effect_rule x)) (sym (same_view pool c.loop-effect.pool entry c.loop-effect.invariant.added.longer c.requires.numbers))
     (effect_keeps_domains c.args.self.now.app.now c.args.point (plain_entry pool entry) c.in_ok-effects.effects x alike listed (c.in_ok-effects.ensures.exact (plain_entry pool entry) alike c.requires.allowed))
@@ -46,7 +46,7 @@ returns-clause-added c =
     let app = c.args.self.now.app.now in
     let pool = c.args.pool.now in
     let plain = plain_entry pool c.args.self.now.before.now in
-    let alike : domains plain ≡ domains_of app = same_domains pool 0 c.args.self.now.before.now.sets ∙ c.requires.domains in
+    let alike : domains plain ≡ domains_of app = same_domains pool 0 c.args.self.now.before.now.sets ∙ c.args.self.now.domains in
     let whole = take_all c.loop-effect.effect-index c.as_slice-effect-items.result.now c.loop-effect-test.false ∙ c.as_slice-effect-items.ensures in
     record {
       effects = c.in_ok-effects.effects;

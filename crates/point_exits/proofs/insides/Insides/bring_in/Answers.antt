@@ -1,21 +1,28 @@
-use Rattle.std.proofs.Common.{◌≡◌, ◌<◌, ◌∷◌, [], ◌∙◌, length, set, refl, sym, ap, subst, arith}
-use Rattle.std.proofs.lemmas.List.{length-append}
+use Rattle.std.proofs.Common.{◌≡◌, ◌<◌, ℕ, List, ◌∷◌, [], ◌∙◌, length, set, refl, sym, ap, subst, arith}
+use Rattle.std.proofs.lemmas.List.{length-append, Elements.{All-get_or}}
 use Rattle.abstract_state.specs.{declared.value.{Domain.{Domain}, PartValue.{PartValue}}, Domains.{IsWithin}}
+use Rattle.abstract_state.specs.declared.value.Domain.TheVariants as domain
 use Rattle.flow_model.specs.declared.change.Update.TheVariants as update
 use Rattle.flow_model.specs.Tests.{updated}
-use Rattle.numbered_sets.specs.Pools.{seen_at, value_seen, values_at, domain_at, IsNumberOf, IsLonger}
+use Rattle.numbered_sets.specs.Pools.{Values, no_values, AreValues, seen_at, value_seen, values_at, domain_at, IsNumberOf, IsLonger}
 use Rattle.numbered_sets.proofs.{NumberingLaws.{as_long, longer_onward, same_domain}, ViewLaws.{longer_with}}
 use Rattle.point_exits.specs.{declared.insides.Insides.{Insides}, Levels.{AreInside}}
 use Rattle.point_exits.proofs.InsideLevels.{AreBroughtIn, none_brought, brought_next, value_within}
 use Rattle.point_exits.proofs.insides.Insides.bring_in.Goals as goal
 
+-- how many values of the task there are
+its_length : (n : ℕ) (pool : List Values) (t k : ℕ) → k ≡ t → n ≡ length (values_at pool k) → n ≡ length (values_at pool t)
+its_length n pool t k same e = e ∙ ap (λ (i : ℕ). length (values_at pool i)) same
+
 pub loop-number-init : goal.loop-number-init
 loop-number-init c =
     let pool = c.args.pool.now in
     let x = c.args.self.now in
+    let t = x.task.0 in
+    let values : AreValues (seen_at pool t) = All-get_or AreValues pool t (no_values domain.Alarm) c.requires.known c.are_values.ensures in
     record {
-      brought = subst (λ k. AreBroughtIn pool k c.args.came pool x) (sym c.index-component.ensures)
-          (subst (λ n. AreBroughtIn pool x.task.0 n pool x) (sym c.requires.came) (none_brought pool x.task.0 x c.requires.values c.requires.insides));
+      brought = subst (λ k. AreBroughtIn pool k c.len-came.result pool x) (sym c.index-component.ensures)
+          (subst (λ n. AreBroughtIn pool t n pool x) (sym (its_length c.len-came.result pool t c.index-component.result c.index-component.ensures c.len-came.ensures)) (none_brought pool t x values c.requires.insides));
       count = sym c.len-number.ensures;
       task = refl;
     }
@@ -46,7 +53,7 @@ loop-number-preserved c =
     let domain : domain_at pool k ≡ domain_at before c.args.self.now.task.0 = same_domain before pool k inv.brought.longer ∙ ap (domain_at before) c.index-component.ensures in
     let own = subst (λ (d : Domain). IsWithin d v) domain (value_within (domain_at pool k) (values_at pool k) v c.loop-number.number inv.brought.values c.value.ensures) in
     record {
-      brought = brought_next before pool after k c.args.came x y v m inv.brought lt
+      brought = brought_next before pool after k c.len-came.result x y v m inv.brought lt
           (subst (IsNumberOf (values_at pool k) v) (sym inv.count) c.value.ensures)
           (subst (λ (d : Domain). IsWithin d (updated update.Inside v)) (sym domain) (c.requires.within v own))
           (c.in_ok-found.ensures.pool ∙ ap (λ (u : PartValue). set pool k (value_seen (seen_at pool k) u)) c.of-inside.ensures)
@@ -68,5 +75,12 @@ returns-in_err-push-clause-pool c =
 pub returns-clause-insides : goal.returns-clause-insides
 returns-clause-insides c = subst (λ k. AreInside (values_at c.loop-number.pool k) c.loop-number.self) c.index-component.ensures c.loop-number.invariant.brought.inside
 
+pub returns-clause-first : goal.returns-clause-first
+returns-clause-first c =
+    let size = its_length c.len-came.result c.args.pool.now c.args.self.now.task.0 c.index-component.result c.index-component.ensures c.len-came.ensures in
+    omega (arith, size, c.loop-number.invariant.count, c.loop-number-test.false, c.loop-number.auto.number-end)
+
 pub returns-clause-rest : goal.returns-clause-rest
-returns-clause-rest c = λ n v past is. c.loop-number.invariant.brought.rest n v past (subst (λ k. IsNumberOf (values_at c.loop-number.pool k) v n) (sym c.index-component.ensures) is)
+returns-clause-rest c = λ n v past is.
+    let size = its_length c.len-came.result c.args.pool.now c.args.self.now.task.0 c.index-component.result c.index-component.ensures c.len-came.ensures in
+    c.loop-number.invariant.brought.rest n v (omega (arith, past, size)) (subst (λ k. IsNumberOf (values_at c.loop-number.pool k) v n) (sym c.index-component.ensures) is)

@@ -8,5 +8,5 @@ returns-clause-insides c =
     let mid = c.bring_in.new.pool in
     let t = c.args.self.now.task.0 in
     let e = c.in_ok-bring_in.ensures in
-    let size : c.len-2.result ≡ length (values_at mid t) = c.len-2.ensures ∙ ap (λ k. length (values_at mid k)) c.index-component.ensures in
-    on_ok_weaker c.go_on_to.result (λ onward. onward (values_at mid t) size e.insides (λ n v past is. e.rest n v (omega (arith, past, e.first)) is)) c.go_on_to.ensures.insides
+    let size : c.len.result ≡ length (values_at mid t) = c.len.ensures ∙ ap (λ k. length (values_at mid k)) c.index-component.ensures in
+    on_ok_weaker c.go_on_to.result (λ onward. onward (values_at mid t) size e.insides (λ n v past is. e.rest n v (let first = e.first in omega (arith, past, first)) is)) c.go_on_to.ensures.insides

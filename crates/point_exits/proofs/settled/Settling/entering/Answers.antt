@@ -9,7 +9,7 @@ pub has_it_after-requires : goal.has_it_after-requires
 has_it_after-requires c =
     let insides = c.args.self.now.levels.now.insides in
     let lt : c.loop-place.place < length insides = omega (arith, c.loop-place-test.true, c.len-place-end.ensures) in
-    (c.requires.are.insides.tasks.each c.at.result.now.task (task_listed insides c.loop-place.place c.at.result.now lt c.at.ensures.item)).0
+    (c.args.self.now.all.are.insides.tasks.each c.at.result.now.task (task_listed insides c.loop-place.place c.at.result.now lt c.at.ensures.item)).0
 
 pub loop-place-preserved : goal.loop-place-preserved
 loop-place-preserved c =
@@ -25,5 +25,5 @@ loop-place-preserved c =
 pub returns-clause-none : goal.returns-clause-none
 returns-clause-none c =
     let x = c.args.self.now in
-    none_goes x.app.now x.stay c.args.decision x.levels.now.insides c.requires.are.insides.tasks
+    none_goes x.app.now x.stay c.args.decision x.levels.now.insides x.all.are.insides.tasks
     (λ i e lt. c.loop-place.invariant i e (omega (arith, lt, c.loop-place-test.false, c.len-place-end.ensures)))

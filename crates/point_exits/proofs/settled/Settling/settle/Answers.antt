@@ -10,18 +10,18 @@ returns-then-is_empty c =
     let insides = x.levels.now.insides in
     let none : length insides ≡ 0 = eqb-true (length insides) 0 (sym c.is_empty.ensures ∙ c.if-is_empty.true) in
     nobody_goes x.app.now x.pool.now x.stay c.args.from c.args.groups.now.items
-    (λ d. none_goes x.app.now x.stay d insides c.requires.levels.are.insides.tasks (λ i e lt. absurd (omega (arith, lt, none))))
+    (λ d. none_goes x.app.now x.stay d insides x.all.are.insides.tasks (λ i e lt. absurd (omega (arith, lt, none))))
 
 pub loop-place-init : goal.loop-place-init
 loop-place-init c = (let x = c.args.self.now in record { from = omega arith; done = settling_begun x.app.now x.pool.now x.stay c.args.from c.args.groups.now.items })
 
-pub settle_group-requires-clause-known : goal.settle_group-requires-clause-known
-settle_group-requires-clause-known c =
+pub settle_group-requires : goal.settle_group-requires
+settle_group-requires c =
     let k = c.loop-place.place in
     let item = c.index_mut.result.now in
     let before = c.args.groups.now.items in
     let lt : k < length before = omega (arith, c.loop-place-test.true, c.len-place-end.ensures, c.args.groups.now.ok.0) in
-    c.requires.known item (k, lt, sym (c.index_mut.ensures.value ∙ c.loop-place.invariant.done.later k item (omega arith)))
+    c.requires item (k, lt, sym (c.index_mut.ensures.value ∙ c.loop-place.invariant.done.later k item (omega arith)))
 
 pub loop-place-preserved : goal.loop-place-preserved
 loop-place-preserved c =

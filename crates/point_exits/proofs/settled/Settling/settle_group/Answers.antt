@@ -19,8 +19,8 @@ returns-in-Some-entering c =
     let place = c.in-Some-entering.place in
     let is = c.at.ensures.item y in
     let goes : goes_inside app x.stay d y.task.0 ≡ true = ap (λ (z : Insides). goes_inside app x.stay d z.task.0) (sym is) ∙ c.in-Some-entering.ensures.goes y in
-    let inside : AreInside (values_at pool y.task.0) y = subst (λ (z : Insides). AreInside (values_at pool z.task.0) z) is (c.requires.levels.are.insides.each place y c.in-Some-entering.ensures.known) in
-    let all : length y.numbers ≡ length (values_at pool y.task.0) = subst (λ (z : Insides). length z.numbers ≡ length (values_at pool z.task.0)) is (c.requires.levels.inside place y c.in-Some-entering.ensures.known) in
+    let inside : AreInside (values_at pool y.task.0) y = subst (λ (z : Insides). AreInside (values_at pool z.task.0) z) is (x.all.are.insides.each place y c.in-Some-entering.ensures.known) in
+    let all : length y.numbers ≡ length (values_at pool y.task.0) = subst (λ (z : Insides). length z.numbers ≡ length (values_at pool z.task.0)) is (x.all.inside place y c.in-Some-entering.ensures.known) in
     on_ok_weaker c.settle.result
     (λ settled. subst (λ (o : Option Decision). IsSettledFor app pool x.stay o old new) (sym c.in-Some.is)
     (subst (λ (f : ℕ → Bool). IsSettledBy f pool old new) (sym (goes_alone app x.stay d y.task.0 goes)) (settled pool inside (sym all)))) c.settle.ensures

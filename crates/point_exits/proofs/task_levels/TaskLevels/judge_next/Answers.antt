@@ -1,4 +1,4 @@
-use Rattle.std.proofs.{Common.{ℕ, ◌+◌, false, get_or, subst}, lemmas.List.{get_or_default}}
+use Rattle.std.proofs.{Common.{ℕ, false, get_or, subst}, lemmas.{List.{get_or_default}, Result.{on_ok_weaker}}}
 use Rattle.abstract_state.specs.declared.value.PartValue.TheVariants.{OfEvent}
 use Rattle.numbered_sets.specs.Pools.{values_at, IsNumberOf}
 use Rattle.point_exits.specs.{declared.task_levels.Level.{Level}, Levels.{IsLiveAt, AreTaskLevels}}
@@ -10,12 +10,10 @@ returns-in-Some-clause-levels c =
     let pool = c.args.pool.now in
     let u = c.args.task.0 in
     let x = c.args.self.now in
-    let y = c.put_at.new.self in
     let vs = values_at pool u in
     let v = get_or vs x.judged (OfEvent false) in
     let is : IsNumberOf vs v x.judged = record { known = c.requires.next; is = λ d. get_or_default vs x.judged d (OfEvent false) c.requires.next } in
     let IsThere : ℕ → Type 0 =
     λ k. (d : Level) → AreTaskLevels app u (values_at pool k) x → IsNumberOf (values_at pool k) v x.judged → IsLiveAt app u (get_or x.levels c.in-Some.place d).priority v in
     let there : IsThere u = subst IsThere c.index-component.ensures (λ d. c.in-Some.ensures.level app u d v) in
-    subst (λ (n : ℕ). AreTaskLevels app u vs (record { judged = n + 1; dead = y.dead; levels = y.levels })) c.in_ok-put_at.ensures.judged
-    (c.in_ok-put_at.ensures.levels app u vs v c.requires.levels is (λ d. there d c.requires.levels is))
+    on_ok_weaker c.put_next.result (λ put. put app u vs v c.requires.levels is (λ d. there d c.requires.levels is)) c.put_next.ensures.levels

@@ -1,6 +1,0 @@
-use Rattle.std.proofs.Common.{◌≡◌, take, flat_map}
-use Rattle.flow_rules.specs.Ruling.{outcomes_by}
-use Rattle.flow_rules.proofs.ruling.outcomes.Given as goal
-
-abbrev pub invariant-loop-exit : goal.invariant-loop-exit
-invariant-loop-exit l = l.cases ≡ flat_map (outcomes_by l.app l.changes l.from) (take l.exit-index l.exits)

@@ -1,5 +1,0 @@
-use Rattle.point_exits.specs.AfterEffect.{IsLeftBy}
-use Rattle.point_exits.proofs.after_effect.AfterEffect.left_by.Given as goal
-
-abbrev pub invariant-loop-task : goal.invariant-loop-task
-invariant-loop-task l = IsLeftBy l.self l.claim l.task l.left

@@ -1,0 +1,71 @@
+-- Facts that structs keep: each has one proof at most.
+use Rattle.std.specs.{Prelude.{◌≡◌, ℕ, List}, Coded.{Unit-prop, le_prop}}
+use Rattle.std.proofs.Props.{props}
+use Rattle.osek_standard.specs.declared.app.App.{App}
+use Rattle.abstract_state.specs.declared.value.{Domain.{Domain}, PartValue.{PartValue}}
+use Rattle.flow_model.specs.declared.{case.{Asked.{Asked}, Stay.{Stay}, Leaving.{Leaving}}, runner.Runner.{Runner}}
+use Rattle.flow_model.specs.declared.case.Asked.TheVariants as asked
+use Rattle.flow_model.specs.declared.case.Stay.TheVariants as stay
+use Rattle.flow_model.specs.declared.runner.Runner.TheVariants as runner
+use Rattle.flow_model.specs.{Runners.{IsRunnerOf}, Effects.{IsKnownStay}}
+use Rattle.numbered_sets.specs.{declared.numbered_entry.NumberedEntry.{NumberedEntry}, Pools.{Values}}
+use Rattle.point_exits.specs.declared.{arrivals.ArrivalsOver.{ArrivalsOver}, insides.Insides.{Insides}, levels.Levels.{Levels}, task_levels.{Level.{Level}, TaskLevels.{TaskLevels}}}
+use Rattle.point_exits.specs.{Arrivals.{AreKnownArrivals}, Levels.{IsLiveAt, AreTaskLevels, AreInsides, AreLevels, AreAllLevels}, Narrowing.{AreNeeds}, Deciding.{IsWhole, IsDecidable, IsAlive, IsAsked, IsLevelOf}}
+
+-- ---- entries
+
+pub SameDomains-prop : (some others : List Domain) → IsProp (some ≡ others)
+SameDomains-prop some others = hlevel props
+
+-- ---- levels
+
+pub IsLiveAt-prop : (app : App) (u p : ℕ) (v : PartValue) → IsProp (IsLiveAt app u p v)
+IsLiveAt-prop app u p v = hlevel props
+
+pub AreTaskLevels-prop : (app : App) (u : ℕ) (vs : List PartValue) (x : TaskLevels) → IsProp (AreTaskLevels app u vs x)
+AreTaskLevels-prop app u vs x = hlevel props
+
+pub AreInsides-prop : (app : App) (pool : List Values) (insides : List Insides) → IsProp (AreInsides app pool insides)
+AreInsides-prop app pool insides = hlevel props
+
+pub AreKnownArrivals-prop : (app : App) (known : List ArrivalsOver) → IsProp (AreKnownArrivals app known)
+AreKnownArrivals-prop app known = hlevel props
+
+pub AreLevels-prop : (app : App) (pool : List Values) (levels : Levels) → IsProp (AreLevels app pool levels)
+AreLevels-prop app pool levels = hlevel (props, AreTaskLevels-prop, AreInsides-prop, AreKnownArrivals-prop)
+
+pub AreAllLevels-prop : (app : App) (pool : List Values) (levels : Levels) → IsProp (AreAllLevels app pool levels)
+AreAllLevels-prop app pool levels = hlevel (props, AreLevels-prop)
+
+-- ---- the values after an effect
+
+pub IsRunnerOf-prop : (app : App) (x : Runner) → IsProp (IsRunnerOf app x)
+IsRunnerOf-prop app (runner.Task t) = le_prop
+IsRunnerOf-prop app (runner.Routine k z over) = hlevel props
+
+pub IsKnownStay-prop : (app : App) (x : Stay) → IsProp (IsKnownStay app x)
+IsKnownStay-prop app (stay.At p) = Unit-prop
+IsKnownStay-prop app (stay.AtBlockOf r) = IsRunnerOf-prop app r
+
+pub IsWhole-prop : (app : App) (pool : List Values) (entry : NumberedEntry) → IsProp (IsWhole app pool entry)
+IsWhole-prop app pool entry = hlevel props
+
+pub IsDecidable-prop : (app : App) (pool : List Values) (levels : Levels) (leaving : Leaving) (after : NumberedEntry) → IsProp (IsDecidable app pool levels leaving after)
+IsDecidable-prop app pool levels leaving after = hlevel (props, IsKnownStay-prop, AreAllLevels-prop, IsWhole-prop)
+
+-- ---- who contends for the processor
+
+pub IsLevelOf-prop : (levels : Levels) (t : ℕ) (level : Level) → IsProp (IsLevelOf levels t level)
+IsLevelOf-prop levels t level = hlevel props
+
+pub AreNeeds-prop : (app : App) (pool : List Values) (entry : NumberedEntry) (n : ℕ) (needs : List ℕ) → IsProp (AreNeeds app pool entry n needs)
+AreNeeds-prop app pool entry n needs = hlevel props
+
+IsAlive-prop : (app : App) (pool : List Values) (entry : NumberedEntry) (t : ℕ) → IsProp (IsAlive app pool entry t)
+IsAlive-prop app pool entry t = hlevel props
+
+pub IsAsked-prop : (app : App) (pool : List Values) (entry : NumberedEntry) (x : Asked) → IsProp (IsAsked app pool entry x)
+IsAsked-prop app pool entry asked.No = hlevel props
+IsAsked-prop app pool entry (asked.Maybe t) = IsAlive-prop app pool entry t.0
+IsAsked-prop app pool entry asked.Left = Unit-prop
+IsAsked-prop app pool entry asked.Free = Unit-prop
