@@ -1,14 +1,14 @@
 -- What changes do to sets of numbers, one component after another.
-use Rattle.std.proofs.Common.{◌≡◌, ℕ, ◌+◌, ◌<◌, ◌≤◌, Bool, true, false, ◌||◌, List, [], ◌∷◌, ◌++◌, length, get_or, set, take, drop, refl, sym, ap, subst, ◌∙◌, inl, inr, arith, IsTrue, get_or-set_same, get_or-set_other}
+use Rattle.std.proofs.Common.{◌≡◌, ◌≢◌, ℕ, suc, ◌+◌, ◌<◌, ◌≤◌, Bool, true, false, ◌||◌, List, [], ◌∷◌, ◌++◌, length, get_or, set, take, drop, refl, sym, ap, subst, ◌∙◌, inl, inr, arith, IsTrue, get_or-set_same, get_or-set_other}
 use Rattle.std.specs.{Prelude.{◌==◌, if◌then◌else◌}, List.{list_any}}
-use Rattle.std.proofs.lemmas.{Bool.{cases_Bool, cases_eq, eq-eqb, ne_eqb, true≢false}, List.{length-set, take_more, take_all, take-append-drop, Folds.{list_any-append}}}
+use Rattle.std.proofs.lemmas.{Bool.{cases_Bool, cases_eq, eq-eqb, ne_eqb, true≢false}, List.{length-set, length-take, length-drop, get_or-take, get_or-drop, get_or_default, take_more, take_all, take-append-drop, Folds.{list_any-append}}}
 use Rattle.abstract_state.specs.{declared.{value.{Domain.{Domain}, PartValue.{PartValue}}, table.ValueSet.{ValueSet}}, Domains.{IsWithin}, Tables.{set_at, is_member}}
 use Rattle.flow_model.specs.{declared.{change.Change.{Change}, test.Condition.{Condition}, rule.Rule.{Rule}}, Tests.{PassesAt, updated, value_after}}
 use Rattle.numbered_sets.specs.{declared.numbered_entry.NumberedEntry.{NumberedEntry}, Numbers.{Numbers}, NumberedEntries.{no_set, numbers_at}, Pools.{Values, values_at, IsLonger}}
 use Rattle.numbered_sets.specs.Views.{plain_set, plain_entry, AreNumbersOf}
 use Rattle.numbered_sets.proofs.{PlainLaws.{plain_set_at, length_plain}, NumberingLaws.{longer_onward}}
 use Rattle.flow_model.proofs.ChangeLaws.{after_both, change_here}
-use Rattle.point_exits.specs.{Applying.{KeepsDomain, IsPassedSet}, Changing.{names, is_named, up_to, making, StaysWithin, AreAllPassed}}
+use Rattle.point_exits.specs.{Applying.{KeepsDomain, IsPassedSet}, Changing.{names, is_named, AreInOrder, up_to, making, StaysWithin, AreAllPassed}}
 use Rattle.point_exits.proofs.NumbersPassing.{passed_on, alike_there}
 
 -- ---- what becomes of a value
@@ -20,6 +20,34 @@ unnamed_stays (x ∷ xs) c v none = elim (cases_Bool (x.component.0 == c)) [
   | inl e ↦ absurd (true≢false (sym (ap (λ (b : Bool). b || list_any (names c) xs) e) ∙ none))
   | inr e ↦ ap (λ (b : Bool). value_after xs c (if b then updated x.update v else v)) e ∙ unnamed_stays xs c v (sym (ap (λ (b : Bool). b || list_any (names c) xs) e) ∙ none)
 ]
+
+-- none of some changes names a component
+none_names : (c : ℕ) (ys : List Change) → ((i : ℕ) (d : Change) → i < length ys → (get_or ys i d).component.0 ≢ c) → list_any (names c) ys ≡ false
+none_names c [] others = refl
+none_names c (y ∷ ys) others =
+    ap (λ (b : Bool). b || list_any (names c) ys) (ne_eqb y.component.0 c (others 0 y (omega arith)))
+    ∙ none_names c ys (λ i d less. others (suc i) d (omega (arith, less)))
+
+-- of changes in order no other one names the component of one
+module _ (xs : List Change) (k c : ℕ) (lt : k < length xs) (order : AreInOrder xs) (named : (x : Change) → get_or xs k x ≡ x → x.component.0 ≡ c) where
+  its : (d : Change) → (get_or xs k d).component.0 ≡ c
+  its d = named (get_or xs k d) (get_or_default xs k (get_or xs k d) d lt)
+
+  pub none_before : is_named xs k c ≡ false
+  none_before = none_names c (take k xs) (λ i d less same.
+      let early : i < k = omega (arith, less, length-take k xs) in
+      let below = order.each i k d early lt in
+      let there = ap (λ (y : Change). y.component.0) (get_or-take k xs i d early) in
+      let here = its d in
+      omega (arith, below, there, here, same))
+
+  pub none_behind : list_any (names c) (drop (k + 1) xs) ≡ false
+  none_behind = none_names c (drop (k + 1) xs) (λ i d less same.
+      let late : k + 1 + i < length xs = omega (arith, less, length-drop (k + 1) xs) in
+      let below = order.each k (k + 1 + i) d (omega arith) late in
+      let there = ap (λ (y : Change). y.component.0) (get_or-drop (k + 1) xs i d) in
+      let here = its d in
+      omega (arith, below, there, here, same))
 
 or_false : (b : Bool) → (b || false) ≡ b
 or_false true = refl

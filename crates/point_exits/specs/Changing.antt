@@ -13,6 +13,10 @@ names c x = x.component.0 == c
 abbrev pub is_named : List Change → ℕ → ℕ → Bool
 is_named xs k c = list_any (names c) (take k xs)
 
+-- each change is of a later component than those before
+pub record AreInOrder (xs : List Change) : Type 0 where
+  pub each : (j k : ℕ) (d : Change) → j < k → k < length xs → (slice_index_or xs j d).component.0 < (slice_index_or xs k d).component.0
+
 -- a rule that takes every value, and makes these changes
 abbrev pub making : List Change → Rule
 making xs = bare_rule [] xs

@@ -7,7 +7,7 @@ ghost use Rattle.numbered_sets.specs.{declared.numbered_entry.NumberedEntry.{Num
 ghost use Rattle.numbered_sets.specs.{Pools.{Values, IsLonger, values_at, domain_at, IsNumberOf}, Views.{plain_entry, AreNumbersOf, plain_set}};
 ghost use Rattle.numbered_sets.specs.Numbers.{has_number};
 ghost use Rattle.point_exits.specs.Applying.{KeepsDomains, bare_rule, IsPassedSet, IsPassedSoFar};
-ghost use Rattle.point_exits.specs.Changing.{is_named as is_named_of, up_to, IsAlone, StaysWithin, AreAllPassed, making};
+ghost use Rattle.point_exits.specs.Changing.{is_named as is_named_of, up_to, AreInOrder, IsAlone, StaysWithin, AreAllPassed, making};
 ghost use Rattle.point_exits.specs.Sifting.{AreSifted, LeavesNone};
 ghost use Rattle.abstract_state.specs.{declared.value.{Domain.{Domain}, PartValue.{PartValue}}, Domains.{IsWithin}, Tables.{is_member}};
 
@@ -58,21 +58,37 @@ pub fn applied(
     if !sift(alloc, conditions.as_slice(), pool, &mut made)? {
         return Ok(None);
     }
+    let in_order = are_in_order(changes.as_slice());
     for place in 0..changes.len() {
-        change(alloc, changes, place, pool, &mut made)?;
+        change(alloc, changes, place, in_order, pool, &mut made)?;
     }
     Ok(Some(made))
 }
 
-// does to an entry what all changes of one component say, where the change at a place is the first that names it
+// whether each change is of a later component than the one before
+fn are_in_order(changes: &[Change]) -> bool
+    ensures { OnTrue result (AreInOrder changes.now) }
+{
+    for place in 1..changes.len() {
+        if changes[place].component.index() <= changes[place - 1].component.index() {
+            return false;
+        }
+    }
+    true
+}
+
+// Does to an entry what all changes of one component say, where the change at a place is the first that names it. Of changes in
+// order it is the only one.
 fn change(
     alloc: Global,
     changes: &Seq<Change>,
     place: usize,
+    in_order: bool,
     pool: &mut Pool,
     entry: &mut NumberedEntry,
 ) -> Result<(), Memory>
     requires known { place < length changes.now }
+    requires order { OnTrue in_order (AreInOrder changes.now) }
     requires numbers { AreNumbersOf pool.old entry.old }
     requires domain { StaysWithin changes.now place pool.old entry.old }
     ensures pool { IsLonger pool.old pool.new }
@@ -81,23 +97,40 @@ fn change(
         AreAllPassed (up_to (bare_rule conditions changes.now) (place + 1)) before was (length was.sets) pool.new entry.new.sets) }
 {
     let component = changes.at(place).component.index();
-    if component >= entry.sets.len() || is_named(changes.as_slice(), place, component) {
+    if component >= entry.sets.len() || was_named(changes, place, component, in_order) {
         return Ok(());
     }
-    let alone = alone(changes, place, component);
+    let alone = alone(changes, place, component, in_order);
     let numbers = entry.sets.set(alloc, component)?;
     let set = updated(alloc, changes, alone, pool, component, &numbers)?;
     entry.sets.put(component, &set)?;
     Ok(())
 }
 
-// the place, if no later change names the component of the change there too
-fn alone(changes: &Seq<Change>, place: usize, component: usize) -> Option<usize>
+// whether an earlier change names the component of the change at a place too
+fn was_named(changes: &Seq<Change>, place: usize, component: usize, in_order: bool) -> bool
     requires known { place < length changes.now }
+    requires order { OnTrue in_order (AreInOrder changes.now) }
+    requires named { (x : Change) → slice_index_or changes.now place x ≡ x → x.component.0 ≡ component }
+    ensures { result ≡ is_named_of changes.now place component }
+{
+    if in_order {
+        return false;
+    }
+    is_named(changes.as_slice(), place, component)
+}
+
+// the place, if no later change names the component of the change there too
+fn alone(changes: &Seq<Change>, place: usize, component: usize, in_order: bool) -> Option<usize>
+    requires known { place < length changes.now }
+    requires order { OnTrue in_order (AreInOrder changes.now) }
     requires named { (x : Change) → slice_index_or changes.now place x ≡ x → x.component.0 ≡ component }
     requires first { is_named_of changes.now place component ≡ false }
     ensures { IfSome result (IsAlone changes.now component) }
 {
+    if in_order {
+        return Some(place);
+    }
     let count = changes.len();
     let later = &changes.as_slice()[place + 1..count];
     if is_named(later, later.len(), component) {

@@ -1,9 +1,9 @@
 use Rattle.std.proofs.Common.{◌≡◌, ℕ, Bool, ◌+◌, ◌-◌, ◌≤◌, List, length, drop, take, ap, sym, ◌∙◌, false, arith}
 use Rattle.std.specs.List.{list_any}
-use Rattle.std.proofs.lemmas.List.{take_all, length-drop}
+use Rattle.std.proofs.lemmas.{Bool.{OnTrue_at}, List.{take_all, length-drop}}
 use Rattle.flow_model.specs.declared.change.Change.{Change}
 use Rattle.point_exits.specs.Changing.{names}
-use Rattle.point_exits.proofs.ChangedSets.{alone_there}
+use Rattle.point_exits.proofs.ChangedSets.{alone_there, none_behind}
 use Rattle.point_exits.proofs.changes.alone.Goals as goal
 
 -- what follows a place is all that is left of the list there, however long that is said to be
@@ -11,6 +11,16 @@ rest_of : (p : Change → Bool) (xs ys : List Change) (k n m : ℕ) → ys ≡ x
 rest_of p xs ys k n m same long le =
     let left : length (drop k ys) ≤ n - k = omega (arith, length-drop k ys, ap length same) in
     ap (list_any p) (ap (drop k) (sym same) ∙ sym (take_all (n - k) (drop k ys) left) ∙ sym (take_all m (take (n - k) (drop k ys)) le))
+
+pub returns-then-in_order : goal.returns-then-in_order
+returns-then-in_order c =
+    let xs = c.args.changes.now in
+    let k = c.args.place in
+    let rest = none_behind xs k c.args.component c.requires.known (OnTrue_at c.if-in_order.true c.requires.order) c.requires.named in
+    record {
+      known = c.requires.known;
+      becomes = λ x v at. alone_there xs k x c.requires.known at c.args.component v (c.requires.named x at) c.requires.first rest;
+    }
 
 pub returns : goal.returns
 returns c =

@@ -1,11 +1,11 @@
-use Rattle.std.proofs.Common.{◌≡◌, ◌<◌, ◌≤◌, ◌+◌, length, get_or, set, true, false, sym, ap, ap₂, subst, ℕ, ◌∙◌, List, map, arith, IsTrue}
+use Rattle.std.proofs.Common.{◌≡◌, ◌<◌, ◌≤◌, ◌+◌, length, get_or, set, true, false, sym, ap, subst, ℕ, ◌∙◌, List, map, arith, IsTrue}
 use Rattle.abstract_state.specs.{Domains.{IsWithin}, Tables.{is_member}}
 use Rattle.flow_model.specs.{declared.change.Change.{Change}, Tests.{value_after}}
 use Rattle.numbered_sets.specs.{Numbers.{Numbers}, NumberedEntries.{no_set}, Pools.{values_at, domain_at}, Views.{plain_set}}
 use Rattle.numbered_sets.proofs.{CopiedEntries.{domains_put}, NumberingLaws.{longer_itself}}
 use Rattle.point_exits.specs.{Applying.{IsPassedSet, bare_rule}, Changing.{is_named, up_to, making, AreAllPassed}}
 use Rattle.point_exits.proofs.{NumbersPassing.{alike_there, known_there}, ChangedSets.{changed_none, changed_beyond, changed_one}}
-use Rattle.point_exits.proofs.changes.change.Goals.{then-component-len-via-then-component-len, then-component-len-via-else-component-len+then-is_named}
+use Rattle.point_exits.proofs.changes.change.Goals.{then-component-len-via-then-component-len, then-component-len-via-else-component-len+then-was_named}
 use Rattle.point_exits.proofs.changes.change.Goals as goal
 
 pub returns-then-component-len-clause-passed : goal.returns-then-component-len-clause-passed
@@ -18,10 +18,13 @@ returns-then-component-len-clause-passed c = λ conditions before was h.
       | then-component-len-via-then-component-len w ↦
           (let beyond : length was.sets ≤ x.component.0 = (let over = w.if-component-len.true in omega (arith, over, index, c.len.ensures, h.size)) in
           changed_beyond rule c.args.place x c.requires.known at before was c.args.pool.now c.args.entry.now.sets h beyond)
-      | then-component-len-via-else-component-len+then-is_named w ↦
-          (let named : is_named rule.changes c.args.place x.component.0 ≡ true = ap₂ (λ (xs : List Change) (j : ℕ). is_named xs c.args.place j) (sym w.as_slice.ensures) (sym index) ∙ sym w.is_named.ensures ∙ w.if-is_named.true in
+      | then-component-len-via-else-component-len+then-was_named w ↦
+          (let named : is_named rule.changes c.args.place x.component.0 ≡ true = ap (is_named rule.changes c.args.place) (sym index) ∙ sym w.was_named.ensures ∙ w.if-was_named.true in
           changed_none rule c.args.place x c.requires.known at before was c.args.pool.now c.args.entry.now.sets h named)
     ]
+
+pub was_named-requires-clause-named : goal.was_named-requires-clause-named
+was_named-requires-clause-named c = λ x at. ap (λ (y : Change). y.component.0) (sym at ∙ c.at.ensures.item x) ∙ sym c.index-component.ensures
 
 pub alone-alone-requires-clause-named : goal.alone-alone-requires-clause-named
 alone-alone-requires-clause-named c = λ x at. ap (λ (y : Change). y.component.0) (sym at ∙ c.at.ensures.item x) ∙ sym c.index-component.ensures
@@ -39,7 +42,7 @@ updated-requires-clause-domain c = λ v m.
     let pool = c.args.pool.now in
     let x = c.at.result.now in
     let index : c.index-component.result ≡ x.component.0 = c.index-component.ensures in
-    let fresh : is_named c.args.changes.now c.args.place x.component.0 ≡ false = ap₂ (λ (xs : List Change) (j : ℕ). is_named xs c.args.place j) (sym c.as_slice.ensures) (sym index) ∙ sym c.is_named.ensures ∙ c.if-is_named.false in
+    let fresh : is_named c.args.changes.now c.args.place x.component.0 ≡ false = ap (is_named c.args.changes.now c.args.place) (sym index) ∙ sym c.was_named.ensures ∙ c.if-was_named.false in
     let known : x.component.0 < length c.args.entry.now.sets = (let below = c.if-component-len.false in omega (arith, below, index, c.len.ensures)) in
     let there = subst (λ (j : ℕ). IsTrue (is_member (plain_set (values_at pool j) (get_or c.args.entry.now.sets j no_set)) v)) index
     (subst (λ (s : Numbers). IsTrue (is_member (plain_set (values_at pool c.index-component.result) s) v)) c.in_ok-numbers.ensures m) in
@@ -52,7 +55,7 @@ returns-clause-passed c = λ conditions before was h.
     let at = c.at.ensures.item x in
     let sets = c.args.entry.now.sets in
     let index : c.index-component.result ≡ x.component.0 = c.index-component.ensures in
-    let fresh : is_named rule.changes c.args.place x.component.0 ≡ false = ap₂ (λ (xs : List Change) (j : ℕ). is_named xs c.args.place j) (sym c.as_slice.ensures) (sym index) ∙ sym c.is_named.ensures ∙ c.if-is_named.false in
+    let fresh : is_named rule.changes c.args.place x.component.0 ≡ false = ap (is_named rule.changes c.args.place) (sym index) ∙ sym c.was_named.ensures ∙ c.if-was_named.false in
     let known : x.component.0 < length was.sets = (let below = c.if-component-len.false in omega (arith, below, index, c.len.ensures, h.size)) in
     let made : IsPassedSet (making rule.changes) c.args.pool.now x.component.0 (get_or sets x.component.0 no_set) c.updated.new.pool c.in_ok-set.set =
     subst (λ (j : ℕ). IsPassedSet (making rule.changes) c.args.pool.now j (get_or sets j no_set) c.updated.new.pool c.in_ok-set.set) index
