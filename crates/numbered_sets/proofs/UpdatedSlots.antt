@@ -3,7 +3,7 @@ use Rattle.std.proofs.Common.{◌≡◌, ℕ, zero, suc, ◌+◌, ◌-◌, ◌*�
 use Rattle.std.specs.Prelude.{Option, Some, None}
 use Rattle.std.proofs.lemmas.Nat.{div-mul-add, mod-mul-add}
 use Rattle.osek_values.specs.{Numbers.{block_no}, declared.{mask.Mask.{Mask}, numbers.{BlockNo.{BlockNo}, ResNo.{ResNo}}}}
-use Rattle.abstract_state.specs.declared.value.{Val.{Val, TheVariants.{Suspended, Live}}, SourceVal.{SourceVal}, Domain.{Domain}, PartValue.{PartValue, TheVariants.{OfTask, OfSource}}}
+use Rattle.abstract_state.specs.declared.value.{Val.{Val, TheVariants.{Live}}, SourceVal.{SourceVal}, Domain.{Domain}, PartValue.{PartValue, TheVariants.{OfTask, OfSource}}}
 use Rattle.abstract_state.specs.declared.value.Domain.TheVariants as domain
 use Rattle.abstract_state.specs.declared.value.SourceVal.TheVariants as source_val
 use Rattle.abstract_state.specs.Components.{routine_val}
@@ -11,7 +11,7 @@ use Rattle.flow_model.specs.{declared.change.Update.{Update}, Tests.{updated}}
 use Rattle.flow_model.specs.declared.change.Update.TheVariants as update
 use Rattle.numbered_sets.specs.declared.{loads.Load.{Load}, slot_values.{SlotPlace.{SlotPlace}, Standing.{Standing, TheVariants.{At, Own}}}}
 use Rattle.numbered_sets.specs.{Pools.{IsNumberOf}, SeenSlots.{AreSeen}}
-use Rattle.numbered_sets.specs.Slots.{no_load, none, load_of, routine_load, carrying, in_row, in_source_row, val_in, source_in, value_in, slot_values, slot_width, blocks_of, width_of, UsedSlots}
+use Rattle.numbered_sets.specs.Slots.{no_load, none, load_of, routine_load, carrying, in_row, in_source_row, val_in, source_in, value_in, slot_values, slot_width, width_of, UsedSlots}
 use Rattle.numbered_sets.specs.Slots.{IsRoutineLoad, IsTaskSlot, IsSourceSlot, IsSlot, IsSlotInRow, IsTaskSlotOf, IsSourceSlotOf, IsSlotOf, IsLoadNumber, AreDistinct, IsPlaceIn, IsSlotPlace}
 use Rattle.numbered_sets.specs.LoadUpdates.{load_after, named_block, block_or, changes_task_load, changes_stack, changes_load, offset_after, IsStandingIn, IsStandingAfter, IsNumberAfter, AreNumbersAfter, IsLoadIn, IsFoundWith}
 use Rattle.numbered_sets.proofs.{TaskSlots.{row_known, live_slot}, SourceSlots.{routine_slot}, SlotLaws.{of_task, of_source, as_many, moved_number}}

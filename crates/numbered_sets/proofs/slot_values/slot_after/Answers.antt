@@ -1,4 +1,4 @@
-use Rattle.std.proofs.Common.{◌≡◌, ◌≢◌, ℕ, ◌+◌, ◌-◌, ◌*◌, get_or, sym, ap, ap₂, subst, ◌∙◌}
+use Rattle.std.proofs.Common.{◌≡◌, ◌≢◌, ℕ, ◌+◌, ◌-◌, ◌*◌, get_or, sym, ap₂, subst, ◌∙◌}
 use Rattle.std.specs.Prelude.{IfSome}
 use Rattle.flow_model.specs.{declared.change.Update.{Update}, Tests.{updated}}
 use Rattle.numbered_sets.specs.{Slots.{none, value_in, slot_width, IsSlotOf}, LoadUpdates.{offset_after, IsNumberAfter}}

@@ -1,7 +1,7 @@
 use Rattle.std.proofs.Common.{◌≡◌, ◌++◌, [], ◌∙◌, List, length, map, flat_map, sym, ap, subst}
 use Rattle.std.specs.{Prelude.{Contains, IfSome, IfNone}, declared.option.Option.{Option}}
 use Rattle.std.proofs.lemmas.Result.{on_ok_weaker}
-use Rattle.abstract_state.specs.{declared.table.PlainEntry.{PlainEntry}, Components.{component_count}, Domains.{domains}}
+use Rattle.abstract_state.specs.{declared.table.PlainEntry.{PlainEntry}, Components.{component_count}}
 use Rattle.osek_standard.proofs.Members.{contained_among}
 use Rattle.flow_model.specs.{declared.{case.OutcomeCase.{OutcomeCase}, change.Change.{Change}}, Rules.{Applies, HasNone}}
 use Rattle.numbered_sets.specs.{declared.numbered_entry.NumberedEntry.{NumberedEntry}, Views.{plain_entry}}

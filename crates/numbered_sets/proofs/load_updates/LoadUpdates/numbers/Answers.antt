@@ -1,6 +1,6 @@
-use Rattle.std.proofs.Common.{get_or, sym, subst}
+use Rattle.std.proofs.Common.{get_or, subst}
 use Rattle.std.proofs.lemmas.List.Elements.{Contains-get_or}
-use Rattle.numbered_sets.specs.{declared.load_updates.LoadsAfter.{LoadsAfter}, LoadUpdates.{load_after, AreNumbersAfter}}
+use Rattle.numbered_sets.specs.{declared.load_updates.LoadsAfter.{LoadsAfter}, LoadUpdates.{AreNumbersAfter}}
 use Rattle.numbered_sets.proofs.LoadUpdateLaws.{numbers_alike}
 use Rattle.numbered_sets.proofs.load_updates.LoadUpdates.numbers.Goals as goal
 
