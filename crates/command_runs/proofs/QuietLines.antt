@@ -1,12 +1,12 @@
 -- A line shows of the tasks nothing that a quiet step changes.
-use Rattle.std.proofs.Common.{◌≡◌, ℕ, List, [], ◌∷◌, map, if◌then◌else◌, refl, sym, ◌∙◌, ap}
-use Rattle.std.specs.{List.{enumerate_from}, declared.option.Option.{Option}}
+use Rattle.std.proofs.Common.{◌≡◌, ◌++◌, ℕ, List, [], ◌∷◌, if◌then◌else◌, refl, sym, ◌∙◌, ap, ap₂}
+use Rattle.std.specs.{List.{enumerate_from, flat_map}, declared.option.Option.{Option}}
 use Rattle.osek_values.specs.declared.{mask.Mask.{Mask}, status.Letter.{TheVariants.{R, Y}}, numbers.TaskNo.{TaskNo}}
 use Rattle.osek_standard.specs.declared.{app.App.{App}, objects.Task.{Task}, state.{State.{State}, Processor.{Processor}}}
 use Rattle.osek_standard.specs.declared.task_state.{Place.{Place}, TaskState.{TaskState}, Activity.{Activity, TheVariants.{Suspended, Live, Waiting}}}
-use Rattle.osek_standard.specs.{TaskStates.{further, held, is_inside}, States.{is_that_task, letter_of, nowhere, task_of, task_state}, Effects.{standing_at}}
-use Rattle.trace_text.specs.{declared.shown.Shown.{Shown}, LineParts.{shown_of, tasks_text}}
-use Rattle.trace_text.proofs.ShownLaws.{shown_alike}
+use Rattle.osek_standard.specs.{TaskStates.{further, held, is_inside}, States.{is_that_task, letter_of, nowhere, task_of, task_state}, Effects.{standing_at}, TraceText.{task_text}}
+use Rattle.trace_text.specs.{declared.shown.Shown.{Shown}, LineParts.{shown_of, shown_text, tasks_text}}
+use Rattle.trace_text.proofs.ShownLaws.{text_of_shown}
 use Rattle.image_run.specs.Quiet.{KeepsTasks}
 
 -- what a line shows of a task in this state, under who has the processor
@@ -35,10 +35,13 @@ module _ (s r : State) (k : KeepsTasks s r) where
       ∙ ap (shown_in s.processor t) (k.tasks t)
       ∙ anywhere s.processor t x.events x.activity nowhere
 
-  all_same : (ds : List (ℕ × Task)) → map (λ d. shown_of r d.0) ds ≡ map (λ d. shown_of s d.0) ds
-  all_same [] = refl
-  all_same (d ∷ ds) = ap (λ (x : Shown). x ∷ map (λ d. shown_of r d.0) ds) (shown_same d.0) ∙ ap (λ (xs : List Shown). shown_of s d.0 ∷ xs) (all_same ds)
+  one_text : (app : App) (d : ℕ × Task) → task_text app r d ≡ task_text app s d
+  one_text app d = text_of_shown app r d.0 d.1 ∙ ap (shown_text app d.0 d.1) (shown_same d.0) ∙ sym (text_of_shown app s d.0 d.1)
+
+  each_text : (app : App) (ds : List (ℕ × Task)) → flat_map (task_text app r) ds ≡ flat_map (task_text app s) ds
+  each_text app [] = refl
+  each_text app (d ∷ ds) = ap₂ (λ (x y : List ℕ). x ++ y) (one_text app d) (each_text app ds)
 
   -- so the text of the tasks is the same
   pub same_text : (app : App) → tasks_text app r ≡ tasks_text app s
-  same_text app = shown_alike app r s (all_same (enumerate_from 0 app.tasks))
+  same_text app = each_text app (enumerate_from 0 app.tasks)

@@ -13,9 +13,14 @@ pub mod TextLaws
 pub mod WordLaws
 pub mod RecordLaws
 pub mod ShownLaws
+pub mod KeptLaws
+pub mod PartsLaws
+pub mod OpenedParts
 pub mod RoutineTexts
 pub mod PlainLines
 pub mod PointForms
 pub mod PointParts
 pub mod PointReading
 pub mod PointAnswers
+pub mod PlainPoints
+pub mod LineEnds

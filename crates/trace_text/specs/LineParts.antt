@@ -1,7 +1,11 @@
 -- What the lines of a trace are put by: labels, and the text of the tasks as they were shown last.
-use Rattle.std.specs.{Prelude.{◌≡◌, ℕ, List, map}, List.{flat_map, enumerate_from}}
-use Rattle.osek_standard.specs.{declared.{app.App.{App}, state.State.{State}}, TaskStates.{further, is_inside, held}, States.{task_state, letter_of}, TraceText.{task_text, routine_text}}
-use Rattle.trace_text.specs.{declared.shown.Shown.{Shown}, Labels.{LabelTexts, label_texts}}
+use Rattle.std.specs.Prelude.{◌≡◌, ℕ, ◌≤◌, ◌<◌, Bool, true, false, ◌==◌, List, [], ◌++◌, length, take, slice_index_or, if◌then◌else◌, codes, None}
+use Rattle.std.specs.List.{flat_map, enumerate_from, sum_by, cons_option}
+use Rattle.osek_values.specs.{declared.status.Letter.{Letter, TheVariants.{S, Y, R, W}}, Numbers.{mask, hexadecimal}}
+use Rattle.osek_standard.specs.declared.{app.App.{App}, objects.Task.{Task}, state.State.{State}}
+use Rattle.osek_standard.specs.{Apps.{the_task}, TaskStates.{further, is_inside, held}, Internal.{internal_of}}
+use Rattle.osek_standard.specs.{States.{task_state, letter_of}, TraceText.{letter, further_text, resource_text, task_text, routine_text}}
+use Rattle.trace_text.specs.{declared.{shown.{Shown.{Shown}, KeptTask.{KeptTask}}, trace_line.TheConstants.{MAX_TASK}}, Labels.{LabelTexts, label_texts}}
 
 -- what a line shows of a task
 abbrev pub shown_of : State → ℕ → Shown
@@ -13,8 +17,33 @@ shown_of s t = record {
   stack = held (task_state s t);
 }
 
-abbrev pub all_shown : App → State → List Shown
-all_shown app s = map (λ d. shown_of s d.0) (enumerate_from 0 app.tasks)
+-- S stands for the suspended tasks alone
+abbrev pub is_suspended_letter : Letter → Bool
+is_suspended_letter S = true
+is_suspended_letter Y = false
+is_suspended_letter R = false
+is_suspended_letter W = false
+
+-- the events of a task by what is shown of it
+abbrev pub shown_events : Task → Shown → List ℕ
+shown_events d x =
+    if (d.own.0 == 0) then []
+    else if is_suspended_letter x.letter then []
+    else codes ":" ++ hexadecimal x.events.0
+
+-- the text of a task by what is shown of it
+abbrev pub shown_text : App → ℕ → Task → Shown → List ℕ
+shown_text app t d x =
+    codes " " ++ d.name ++ codes "=" ++ letter x.letter ++ further_text x.further ++ shown_events d x
+    ++ flat_map (resource_text app) (cons_option (if x.inside then internal_of app t else None) x.stack)
+
+-- the same with another letter
+abbrev pub with_letter : Shown → Letter → Shown
+with_letter x l = record x { letter = l }
+
+-- with the letter alone the events of task t don't change
+abbrev pub KeepsEvents : App → ℕ → Shown → Letter → Type 0
+KeepsEvents app t x l = shown_events (the_task app t) (with_letter x l) ≡ shown_events (the_task app t) x
 
 -- the tasks in a line
 abbrev pub tasks_text : App → State → List ℕ
@@ -24,12 +53,47 @@ tasks_text app s = flat_map (task_text app s) (enumerate_from 0 app.tasks)
 abbrev pub routines_text : App → State → List ℕ
 routines_text app s = flat_map (routine_text app s.processor) (enumerate_from 0 s.sources)
 
+-- before it is shown
+abbrev pub not_shown : KeptTask
+not_shown = record { shown = record { letter = S; further = 0; events = mask 0; inside = false; stack = [] }; size = 0 }
+
+abbrev pub kept_with_letter : KeptTask → Letter → KeptTask
+kept_with_letter k l = record { shown = with_letter k.shown l; size = k.size }
+
+-- what was shown of task t
+abbrev pub shown_before : List KeptTask → ℕ → Shown
+shown_before ks t = (slice_index_or ks t not_shown).shown
+
+-- the text of a task as it was shown, by its number
+abbrev pub kept_text : App → ℕ × KeptTask → List ℕ
+kept_text app k = shown_text app k.0 (the_task app k.0) k.1.shown
+
+-- the texts of the tasks from task n on, one behind the other
+abbrev pub kept_texts : App → ℕ → List KeptTask → List ℕ
+kept_texts app n ks = flat_map (kept_text app) (enumerate_from n ks)
+
+-- where the text of task t begins
+abbrev pub kept_place : List KeptTask → ℕ → ℕ
+kept_place ks t = sum_by (λ k. k.size) (take t ks)
+
+-- a text has the length that is kept of it
+pub record IsKept (app : App) (t : ℕ) (k : KeptTask) : Type 0 where
+  pub size : k.size ≡ length (kept_text app (t, k))
+  pub most : k.size ≤ MAX_TASK
+
 pub record LineTexts : Type 0 where
   pub labels : LabelTexts
-  pub shown : List Shown
+  pub kept : List KeptTask
   pub tasks : List ℕ
 
--- The labels are those of the application, and the text is that of each state whose tasks are shown so.
+-- The labels are those of the application, and the text is that of each task as it was shown, one behind the other.
 pub record ArePartsOf (app : App) (p : LineTexts) : Type 0 where
   pub labelled : p.labels ≡ label_texts app
-  pub shows : (s : State) → p.shown ≡ all_shown app s → p.tasks ≡ tasks_text app s
+  pub kept : (t : ℕ) → t < length p.kept → IsKept app t (slice_index_or p.kept t not_shown)
+  pub text : p.tasks ≡ kept_texts app 0 p.kept
+
+-- then this is shown of task t, and of those before it what was
+pub record ShowsTask (old new : List KeptTask) (t : ℕ) (x : Shown) : Type 0 where
+  pub count : length new ≡ length old
+  pub before : take t new ≡ take t old
+  pub shown : shown_before new t ≡ x

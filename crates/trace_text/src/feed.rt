@@ -1,5 +1,6 @@
 //! The lines of an event text that comes in pieces.
-ghost use Rattle.std.specs.{Prelude.{◌≡◌, ◌≤◌, ◌+◌, ◌==◌, ◌<◌, length, take, drop, vec_len, vec_capacity, IfOk, IfSome, option_map}, List.{position}};
+ghost use Rattle.std.specs.{Prelude.{◌≡◌, ◌≤◌, ◌+◌, ◌==◌, ◌<◌, length, map, take, drop, vec_len, vec_capacity, IfOk, IfSome, option_map}, List.{position}};
+ghost use Rattle.std.specs.Simd.Lanes.{mask_l};
 ghost use Rattle.std.specs.Str.Lines.{strip_carriage_return};
 ghost use Rattle.trace_text.specs.Feeds.{peeled};
 
@@ -7,9 +8,13 @@ use osek_values::Memory;
 use osek_values::limits::MAX_EVENT_LINE;
 use std::alloc::Global;
 use std::marker::Model;
+use std::simd::prelude::*;
 
 /// How many bytes a feed has room for.
 pub const FEED_ROOM: usize = 73_728;
+
+// How many bytes are looked at at once.
+const LANES: usize = 16;
 
 /// What a feed answers where the next line is asked for.
 #[derive(Clone, Copy, PartialEq, Eq)]
@@ -51,10 +56,33 @@ impl Model for Feed {
     ghost invariant = { λ f. (f.ahead ≤ vec_len f.bytes) × (f.line_start ≤ f.line_end) × (f.line_end ≤ vec_len f.bytes) × (vec_len f.bytes ≤ FEED_ROOM) × (FEED_ROOM ≤ vec_capacity f.bytes) };
 }
 
+fn line_ends(bytes: u8x16) -> u64
+    ensures { result ≡ mask_l (map (λ c. c == 10) bytes) }
+{
+    bytes.simd_eq(u8x16::splat(b'\n')).to_bitmask()
+}
+
+// Where the first line of a text ends, if it does among the first bytes, which are looked at at once: most lines are short.
+fn near_line_end(text: &[u8]) -> Option<usize>
+    ensures { IfSome result (λ end. Some end ≡ position (λ c. c == 10) text.now) }
+{
+    if text.len() < LANES {
+        return None;
+    }
+    let ends = line_ends(u8x16::from_slice(text));
+    if ends == 0 {
+        return None;
+    }
+    Some(ends.trailing_zeros() as usize)
+}
+
 fn line_end(text: &[u8]) -> Option<usize>
     ensures { result ≡ position (λ c. c == 10) text.now }
 {
-    text.iter().position(|byte| *byte == b'\n')
+    match near_line_end(text) {
+        Some(end) => Some(end),
+        None => text.iter().position(|byte| *byte == b'\n'),
+    }
 }
 
 fn without_cr(line: &[u8]) -> &[u8]

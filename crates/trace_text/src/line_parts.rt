@@ -1,14 +1,16 @@
 //! What the lines of a trace are put by.
-ghost use Rattle.std.specs.Prelude.{◌≡◌, ◌≤◌, ◌+◌, ◌++◌, length, take, decimal};
-ghost use Rattle.osek_standard.specs.Well.{Well};
-ghost use Rattle.trace_text.specs.LineParts.{ArePartsOf, tasks_text};
+ghost use Rattle.std.specs.{Prelude.{◌≡◌, ℕ, ◌<◌, ◌≤◌, ◌+◌, ◌-◌, ◌++◌, length, take, drop, slice_index_or, slice_set, decimal}, List.{sum_by}};
+ghost use Rattle.osek_standard.specs.{States.{task_of}, Well.{Well}};
+ghost use Rattle.trace_text.specs.LineParts.{ArePartsOf, ShowsTask, KeepsEvents, shown_of as what_is_shown, with_letter, shown_before, tasks_text, kept_place, kept_with_letter, not_shown};
 
 use crate::labels::Labels;
-use crate::shown::{Shown, are_as_shown, show_all};
-use crate::trace_line::{MAX_ALL_TASKS, put_tasks};
+use crate::shown::{KeptTask, letter_in_place, shown_of, shown_so_far};
+use crate::trace_line::{MAX_ALL_TASKS, put_task, put_tasks};
+use crate::trace_notes::state_mark;
 use arrayvec::ArrayVec;
 use osek_standard::{App, State};
 use osek_values::limits::MAX_TASKS;
+use osek_values::{Letter, TaskNo};
 use std::marker::Model;
 use text_pieces::{Count, LABEL_ROOM, MAX_DECIMAL, put, put_count, put_decimal, put_prefix};
 
@@ -20,40 +22,81 @@ const SHORT: usize = 64;
 const MIDDLE: usize = 128;
 
 /// What the lines of one application's trace are put by: its labels, and the text of its tasks as they were shown last,
-/// since most events change nothing of it. It holds no memory.
+/// since most events change nothing of it, and most others one task or two. It holds no memory.
 #[derive(Drop)]
 pub struct LineParts {
     labels: Labels,
-    shown: ArrayVec<Shown, MAX_TASKS>,
+    // What was shown of each task, or of none.
+    kept: ArrayVec<KeptTask, MAX_TASKS>,
     // The text, and behind it bytes that have no meaning.
     tasks: [u8; TASKS_ROOM],
     size: usize,
+    // Where a part of the text is made. Between calls it has no meaning.
+    spare: [u8; TASKS_ROOM],
     // The number of a line, as it was put last: most lines have the next.
     number: Count,
 }
 
+// Puts a part of a text.
+fn put_part(buf: &mut [u8], at: usize, text: &[u8], start: usize, end: usize) -> usize
+    requires order { start ≤ end }
+    requires within { end ≤ length text.now }
+    requires room { at + (end - start) ≤ length buf.old }
+    ensures text { take result buf.new ≡ take at buf.old ++ drop start (take end text.now) }
+    ensures end { result ≡ at + (end - start) }
+{
+    put(buf, at, &text[start..end])
+}
+
+fn keep(kept: &mut ArrayVec<KeptTask, MAX_TASKS>, task: usize, to: KeptTask)
+    requires { task < length kept.old.items }
+    ensures { kept.new.items ≡ slice_set kept.old.items task to }
+{
+    kept.as_mut_slice()[task] = to;
+}
+
+fn keep_letter(kept: &mut ArrayVec<KeptTask, MAX_TASKS>, task: usize, letter: Letter)
+    requires { task < length kept.old.items }
+    ensures { kept.new.items ≡ slice_set kept.old.items task (kept_with_letter (slice_index_or kept.old.items task not_shown) letter) }
+{
+    kept.as_mut_slice()[task].shown.letter = letter;
+}
+
+// Where the text of a task begins.
+fn place_of(kept: &[KeptTask], task: usize) -> usize
+    requires within { task ≤ length kept.now }
+    requires few { sum_by (λ k. k.size) kept.now ≤ MAX_ALL_TASKS }
+    ensures { result ≡ kept_place kept.now task }
+{
+    let mut place = 0;
+    for before in 0..task {
+        place += kept[before].size;
+    }
+    place
+}
+
 impl Model for LineParts {
-    ghost use Rattle.std.specs.Prelude.{◌≤◌, take};
+    ghost use Rattle.std.specs.{Prelude.{◌≡◌, ◌≤◌, take}, List.{sum_by}};
     ghost use Rattle.trace_text.specs.{LineParts.{LineTexts}, declared.trace_line.TheConstants.{MAX_ALL_TASKS}};
 
     ghost Value = { LineTexts };
 
-    ghost view = { λ p. record { labels = p.labels; shown = p.shown.items; tasks = take p.size p.tasks } };
+    ghost view = { λ p. record { labels = p.labels; kept = p.kept.items; tasks = take p.size p.tasks } };
 
-    ghost invariant = { λ p. p.size ≤ MAX_ALL_TASKS };
+    ghost invariant = { λ p. (p.size ≤ MAX_ALL_TASKS) × (p.size ≡ sum_by (λ k. k.size) p.kept.items) };
 }
 
 impl LineParts {
     /// What the lines of an application's trace are put by. No tasks were shown yet.
-    #[tactic(auto, using(crate::proofs::ShownLaws::none_shown))]
     pub fn of(app: &App) -> LineParts
         ensures { ArePartsOf app.now result }
     {
         LineParts {
             labels: Labels::of(app),
-            shown: ArrayVec::new(),
+            kept: ArrayVec::new(),
             tasks: [0; TASKS_ROOM],
             size: 0,
+            spare: [0; TASKS_ROOM],
             number: Count::of(0),
         }
     }
@@ -65,11 +108,115 @@ impl LineParts {
         ensures parts { ArePartsOf app.now self.new }
         ensures tasks { self.new.tasks ≡ tasks_text app.now state.now }
     {
-        if are_as_shown(self.shown.as_slice(), app, state) {
+        if self.kept.len() != app.tasks.len() {
+            self.show_anew(app, state);
             return;
         }
-        self.size = put_tasks(&mut self.tasks, 0, &self.labels, app, state);
-        show_all(&mut self.shown, app, state);
+        let current = state.current();
+        let first = shown_so_far(self.kept.as_slice(), app, state, current);
+        if first < app.tasks.len() {
+            self.show_rest(first, app, state, current);
+        }
+    }
+
+    // Makes the text of the tasks that of a state, from a task on: those before it are shown as they are.
+    fn show_rest(&mut self, first: usize, app: &App, state: &State, current: Option<TaskNo>)
+        requires well { Well app.now state.now }
+        requires parts { ArePartsOf app.now self.old }
+        requires whole { length self.old.kept ≡ length app.now.tasks }
+        requires known { first < length app.now.tasks }
+        requires current { current ≡ task_of state.now.processor }
+        requires shown { (t : ℕ) → t < first → shown_before self.old.kept t ≡ what_is_shown state.now t }
+        ensures parts { ArePartsOf app.now self.new }
+        ensures tasks { self.new.tasks ≡ tasks_text app.now state.now }
+    {
+        let mut at = place_of(self.kept.as_slice(), first);
+        for task in first..app.tasks.len() {
+            at = self.show_task(at, app, state, current, TaskNo(task as u8));
+        }
+    }
+
+    // Makes the text of all tasks.
+    fn show_anew(&mut self, app: &App, state: &State)
+        requires well { Well app.now state.now }
+        requires parts { ArePartsOf app.now self.old }
+        ensures parts { ArePartsOf app.now self.new }
+        ensures tasks { self.new.tasks ≡ tasks_text app.now state.now }
+    {
+        self.kept = ArrayVec::new();
+        self.size = put_tasks(&mut self.tasks, &mut self.kept, &self.labels, app, state);
+    }
+
+    // Makes the text of a task that of a state, and answers the place behind it.
+    #[inline(always)]
+    fn show_task(
+        &mut self,
+        at: usize,
+        app: &App,
+        state: &State,
+        current: Option<TaskNo>,
+        task: TaskNo,
+    ) -> usize
+        requires well { Well app.now state.now }
+        requires parts { ArePartsOf app.now self.old }
+        requires whole { length self.old.kept ≡ length app.now.tasks }
+        requires known { task.0 < length app.now.tasks }
+        requires current { current ≡ task_of state.now.processor }
+        requires place { at ≡ kept_place self.old.kept task.0 }
+        ensures parts { ArePartsOf app.now self.new }
+        ensures shown { ShowsTask self.old.kept self.new.kept task.0 (what_is_shown state.now task.0) }
+        ensures place { result ≡ kept_place self.new.kept (task.0 + 1) }
+    {
+        let shown = &self.kept.as_slice()[task.index()].shown;
+        match letter_in_place(shown, app, state, current, task) {
+            Some(letter) => self.put_letter(at, app, task, letter),
+            None => self.put_anew(at, app, state, task),
+        }
+    }
+
+    // Puts the letter of a task into its text, where nothing else of it changes.
+    fn put_letter(&mut self, at: usize, app: &App, task: TaskNo, letter: Letter) -> usize
+        requires parts { ArePartsOf app.now self.old }
+        requires whole { length self.old.kept ≡ length app.now.tasks }
+        requires known { task.0 < length app.now.tasks }
+        requires place { at ≡ kept_place self.old.kept task.0 }
+        requires events { KeepsEvents app.now task.0 (shown_before self.old.kept task.0) letter }
+        ensures parts { ArePartsOf app.now self.new }
+        ensures shown { ShowsTask self.old.kept self.new.kept task.0 (with_letter (shown_before self.old.kept task.0) letter) }
+        ensures place { result ≡ kept_place self.new.kept (task.0 + 1) }
+    {
+        let kept = &self.kept.as_slice()[task.index()];
+        let behind = at + kept.size;
+        if kept.shown.letter == letter {
+            return behind;
+        }
+        let place = at + app.task(task).name.as_bytes().len() + 2;
+        self.tasks[place] = state_mark(letter)[1];
+        keep_letter(&mut self.kept, task.index(), letter);
+        behind
+    }
+
+    // Puts the text of a task anew, and behind it what stood behind it.
+    fn put_anew(&mut self, at: usize, app: &App, state: &State, task: TaskNo) -> usize
+        requires well { Well app.now state.now }
+        requires parts { ArePartsOf app.now self.old }
+        requires whole { length self.old.kept ≡ length app.now.tasks }
+        requires known { task.0 < length app.now.tasks }
+        requires place { at ≡ kept_place self.old.kept task.0 }
+        ensures parts { ArePartsOf app.now self.new }
+        ensures shown { ShowsTask self.old.kept self.new.kept task.0 (what_is_shown state.now task.0) }
+        ensures place { result ≡ kept_place self.new.kept (task.0 + 1) }
+    {
+        let behind = at + self.kept.as_slice()[task.index()].size;
+        let size = put_task(&mut self.spare, 0, &self.labels, app, state, task);
+        let end = put_part(&mut self.spare, size, &self.tasks, behind, self.size);
+        self.size = put(&mut self.tasks, at, &self.spare[..end]);
+        let kept = KeptTask {
+            shown: shown_of(state, task),
+            size,
+        };
+        keep(&mut self.kept, task.index(), kept);
+        at + size
     }
 
     /// Makes the digits of a line's number ready. A line has the number that it is put with, whether they are or not; it

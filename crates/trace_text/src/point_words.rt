@@ -1,9 +1,9 @@
 //! What one line of a record of points says.
-ghost use Rattle.std.specs.{Prelude.{◌≡◌, ◌≢◌, ℕ, ◌+◌, ◌-◌, ◌^◌, ◌<◌, List, ◌∷◌, ◌++◌, length, min, IsTrue, if◌then◌else◌, Option, IfSome, MatchOption, codes}, List.{list_all, position}};
+ghost use Rattle.std.specs.{Prelude.{◌≡◌, ◌≢◌, true, ℕ, ◌+◌, ◌-◌, ◌^◌, ◌<◌, ◌≤◌, List, take, ◌∷◌, ◌++◌, length, min, IsTrue, if◌then◌else◌, Option, IfSome, MatchOption, codes}, List.{list_all, position}};
 ghost use Rattle.std.specs.{Char.{is_ascii_digit}, Str.{bytes_eq, Parse.{digits_value}}, Fmt.{decimal}};
 ghost use Rattle.osek_values.specs.declared.numbers.{BlockNo.{BlockNo}, TaskNo.{TaskNo}};
-ghost use Rattle.osek_standard.specs.{Apps.{is_task_block as is_tasks}, Points.{IsPoint, IsTaskBlock, IsRoutineBlock}, Validity.{is_within}, declared.objects.Task.{Task}};
-ghost use Rattle.trace_text.specs.{declared.fault.PointFault.TheVariants.{G1, G2}, EventWords.{words}, PointTexts.{point_text, task_or_dash}};
+ghost use Rattle.osek_standard.specs.{Apps.{is_task_block as is_tasks}, Points.{IsPoint, IsTaskBlock, IsRoutineBlock}, Validity.{is_within}, declared.objects.{Counter.{Counter}, Isr.{Isr}, Task.{Task}}};
+ghost use Rattle.trace_text.specs.{declared.fault.PointFault.TheVariants.{G1, G2}, EventWords.{words}, PointTexts.{block_text, point_text, task_or_dash}};
 ghost use Rattle.trace_text.specs.PointWords.{is_number as is_a_number, slash as the_slash, is_block_form as is_of_block_form, is_point_form as is_of_form};
 ghost use Rattle.trace_text.specs.PointWords.{IsPointOf, point_named as the_point, said_point, point_of_words, read_point_line};
 
@@ -18,6 +18,9 @@ const HALT: &[u8] = b"halt";
 const IDLE: &[u8] = b"idle";
 
 const DASH: &[u8] = b"-";
+
+// How many digits of a number are looked at at once: few applications have more blocks.
+const MAX_DIGITS: usize = 4;
 
 fn slash(word: &[u8]) -> Option<usize>
     ensures { result ≡ the_slash word.now }
@@ -101,11 +104,12 @@ fn block_named(app: &App, digits: &[u8]) -> Option<BlockNo>
     }
 }
 
-fn has_block(task: &Task, block: BlockNo) -> bool
-    ensures { result ≡ is_within block.0 (task.now.first.0, task.now.count) }
+// Whether a block is among so many from a first one on.
+fn is_among(block: BlockNo, first: BlockNo, count: u16) -> bool
+    ensures { result ≡ is_within block.0 (first.0, count) }
 {
-    let after = block.0 >= task.first.0;
-    after && (block.0 as u32) < task.first.0 as u32 + task.count as u32
+    let after = block.0 >= first.0;
+    after && (block.0 as u32) < first.0 as u32 + count as u32
 }
 
 fn is_task_block(app: &App, block: BlockNo) -> bool
@@ -114,7 +118,52 @@ fn is_task_block(app: &App, block: BlockNo) -> bool
     app.tasks
         .as_slice()
         .iter()
-        .any(|task| has_block(task, block))
+        .any(|task| is_among(block, task.first, task.count))
+}
+
+fn isr_with(app: &App, block: BlockNo) -> Option<usize>
+    ensures { result ≡ position (λ (x : Isr). is_within block.0 (x.first.0, x.count)) app.now.isrs }
+{
+    app.isrs
+        .as_slice()
+        .iter()
+        .position(|isr| is_among(block, isr.first, isr.count))
+}
+
+fn counter_with(app: &App, block: BlockNo) -> Option<usize>
+    ensures { result ≡ position (λ (x : Counter). is_within block.0 (x.first.0, x.count)) app.now.counters }
+{
+    app.counters
+        .as_slice()
+        .iter()
+        .position(|counter| is_among(block, counter.first, counter.count))
+}
+
+// Whether an ISR or the tick routine of a counter has a block.
+fn is_routine_block(app: &App, block: BlockNo) -> bool
+    ensures { (x : Option TaskNo) → result ≡ true → IfSome x (λ t. t.0 < length app.now.tasks) → IsRoutineBlock app.now block x }
+{
+    match isr_with(app, block) {
+        Some(_) => true,
+        None => match counter_with(app, block) {
+            Some(_) => true,
+            None => false,
+        },
+    }
+}
+
+// Whether a task has a name. Names that begin alike mostly end otherwise.
+fn is_named(task: &Task, name: &[u8]) -> bool
+    ensures { result ≡ bytes_eq task.now.name name.now }
+{
+    let own = task.name.as_bytes();
+    if own.len() != name.len() {
+        return false;
+    }
+    if own.is_empty() || own[own.len() - 1] == name[own.len() - 1] {
+        return own == name;
+    }
+    false
 }
 
 fn task_named(app: &App, name: &[u8]) -> Option<usize>
@@ -123,7 +172,7 @@ fn task_named(app: &App, name: &[u8]) -> Option<usize>
     app.tasks
         .as_slice()
         .iter()
-        .position(|task| task.name.as_bytes() == name)
+        .position(|task| is_named(task, name))
 }
 
 // What a routine interrupted, by what stands behind the slash: a task, or none.
@@ -216,14 +265,99 @@ fn point_of(app: &App, word: &[u8]) -> Result<Option<Point>, PointFault>
     }
 }
 
-// What most lines say, judged at one look: a point of a block, spelled with no blank.
+// The digits at the front of a text, as far as they are looked at.
+#[derive(Clone, Copy)]
+struct Digits {
+    value: u16,
+    count: usize,
+}
+
+fn front_digits(text: &[u8]) -> Digits
+    ensures within { result.count ≤ length text.now }
+    ensures digits { IsTrue (list_all is_ascii_digit (take result.count text.now)) }
+    ensures value { result.value ≡ digits_value 10 (take result.count text.now) }
+{
+    let mut value: u16 = 0;
+    let most = text.len().min(MAX_DIGITS);
+    for count in 0..most {
+        let byte = text[count];
+        if !byte.is_ascii_digit() {
+            return Digits { value, count };
+        }
+        value = value * 10 + u16::from(byte - b'0');
+    }
+    Digits { value, count: most }
+}
+
+// The block that such digits name.
+fn block_of(app: &App, text: &[u8], digits: Digits) -> Option<BlockNo>
+    requires within { digits.count ≤ length text.now }
+    requires digits { IsTrue (list_all is_ascii_digit (take digits.count text.now)) }
+    requires value { digits.value ≡ digits_value 10 (take digits.count text.now) }
+    ensures { IfSome result (λ b. (b.0 < length app.now.blocks) × (decimal b.0 ≡ take digits.count text.now)) }
+{
+    let is_plain = digits.count == 1 || (digits.count > 0 && text[0] != b'0');
+    if is_plain && (digits.value as usize) < app.blocks.len() {
+        Some(BlockNo(digits.value))
+    } else {
+        None
+    }
+}
+
+fn plain_task_point(app: &App, block: BlockNo) -> Option<Point>
+    requires { block.0 < length app.now.blocks }
+    ensures { IfSome result (λ p. IsPoint app.now p × (point_text app.now p ≡ block_text block.0)) }
+{
+    if is_task_block(app, block) {
+        Some(Point::Task(block))
+    } else {
+        None
+    }
+}
+
+fn plain_routine_point(app: &App, block: BlockNo, name: &[u8]) -> Option<Point>
+    requires { block.0 < length app.now.blocks }
+    ensures { IfSome result (λ p. IsPoint app.now p × (point_text app.now p ≡ block_text block.0 ++ codes "/" ++ name.now)) }
+{
+    let Some(over) = over_named(app, name) else {
+        return None;
+    };
+    if is_routine_block(app, block) {
+        Some(Point::Routine { block, over })
+    } else {
+        None
+    }
+}
+
+// The point of a block, by what stands behind its `b`, where its number is short.
+fn plain_block_point(app: &App, rest: &[u8]) -> Option<Point>
+    ensures { IfSome result (λ p. IsPoint app.now p × (point_text app.now p ≡ codes "b" ++ rest.now)) }
+{
+    let digits = front_digits(rest);
+    let Some(block) = block_of(app, rest, digits) else {
+        return None;
+    };
+    match &rest[digits.count..] {
+        [] => plain_task_point(app, block),
+        [b'/', name @ ..] => plain_routine_point(app, block, name),
+        _ => None,
+    }
+}
+
+// What most lines say, judged at one look: a point that is spelled with no blank.
 fn plain_point(app: &App, line: &[u8]) -> Option<Point>
     ensures { IfSome result (λ p. IsPoint app.now p × (point_text app.now p ≡ line.now)) }
 {
-    let Some(rest) = behind_b(line) else {
-        return None;
-    };
-    block_point(app, rest)
+    match behind_b(line) {
+        Some(rest) => plain_block_point(app, rest),
+        None => {
+            if line == IDLE {
+                Some(Point::Idle)
+            } else {
+                None
+            }
+        }
+    }
 }
 
 fn point_in(app: &App, line: &[u8]) -> Result<Option<Point>, PointFault>

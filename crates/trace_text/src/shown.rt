@@ -1,12 +1,11 @@
 //! What a line of the trace shows of the tasks.
-ghost use Rattle.std.specs.Prelude.{◌≡◌, ◌<◌, ◌≤◌, length, true, false, [], if◌then◌else◌};
+ghost use Rattle.std.specs.Prelude.{◌≡◌, ◌<◌, ◌≤◌, ℕ, length, true, false, [], IfSome, if◌then◌else◌};
 ghost use Rattle.osek_values.specs.declared.status.Letter.TheVariants.{R, Y};
 ghost use Rattle.osek_standard.specs.{TaskStates.{held}, States.{is_that_task, task_of}, Well.{Well}};
-ghost use Rattle.trace_text.specs.LineParts.{shown_of as what_is_shown, all_shown as what_all_show};
+ghost use Rattle.trace_text.specs.declared.shown.Shown.{Shown as AShown};
+ghost use Rattle.trace_text.specs.LineParts.{shown_before, shown_of as what_is_shown, shown_events, is_suspended_letter, with_letter, KeepsEvents};
 
-use arrayvec::ArrayVec;
-use osek_standard::{Activity, App, Standing, State, TaskState};
-use osek_values::limits::MAX_TASKS;
+use osek_standard::{Activity, App, Standing, State, Task, TaskState};
 use osek_values::{Held, Letter, Mask, ResNo, TaskNo};
 
 /// What a line shows of a task.
@@ -31,6 +30,22 @@ impl Default for Shown {
     }
 }
 
+/// What was shown of a task, and how many bytes that has.
+#[derive(Drop)]
+pub(crate) struct KeptTask {
+    pub shown: Shown,
+    pub size: usize,
+}
+
+impl Default for KeptTask {
+    fn default() -> KeptTask {
+        KeptTask {
+            shown: Shown::default(),
+            size: 0,
+        }
+    }
+}
+
 fn held_of(state: &TaskState) -> Held
     ensures { result ≡ held state.now }
 {
@@ -40,7 +55,8 @@ fn held_of(state: &TaskState) -> Held
     }
 }
 
-fn shown_of(state: &State, task: TaskNo) -> Shown
+/// What a line shows of a task.
+pub(crate) fn shown_of(state: &State, task: TaskNo) -> Shown
     requires { task.0 < length state.now.tasks }
     ensures { result ≡ what_is_shown state.now task.0 }
 {
@@ -51,32 +67,6 @@ fn shown_of(state: &State, task: TaskNo) -> Shown
         events: task_state.events,
         inside: task_state.is_inside(),
         stack: held_of(task_state),
-    }
-}
-
-/// What a line shows of all tasks.
-pub(crate) fn all_shown(app: &App, state: &State) -> ArrayVec<Shown, MAX_TASKS>
-    requires well { Well app.now state.now }
-    ensures { result.items ≡ what_all_show app.now state.now }
-{
-    let mut shown = ArrayVec::new();
-    for task in 0..app.tasks.len() {
-        shown.push(shown_of(state, TaskNo(task as u8)));
-    }
-    shown
-}
-
-/// Makes what is kept of the tasks what a line shows of them.
-pub(crate) fn show_all(shown: &mut ArrayVec<Shown, MAX_TASKS>, app: &App, state: &State)
-    requires well { Well app.now state.now }
-    ensures { shown.new.items ≡ what_all_show app.now state.now }
-{
-    if app.tasks.len() != shown.len() {
-        *shown = all_shown(app, state);
-        return;
-    }
-    for task in 0..app.tasks.len() {
-        shown.as_mut_slice()[task] = shown_of(state, TaskNo(task as u8));
     }
 }
 
@@ -96,20 +86,19 @@ fn holds_as(stack: &Held, other: &Held) -> bool
     are_same(stack.as_slice(), other.as_slice())
 }
 
-// Whether of a task this letter is shown, and beside it at most events.
-fn is_bare(shown: &Shown, letter: Letter) -> bool
-    ensures { result ≡ true → shown.now ≡ record { letter = letter; further = 0; events = shown.now.events; inside = false; stack = [] } }
+// Whether of a task a letter is shown, and beside it at most events.
+fn is_bare(shown: &Shown) -> bool
+    ensures { result ≡ true → shown.now ≡ record { letter = shown.now.letter; further = 0; events = shown.now.events; inside = false; stack = [] } }
 {
-    shown.letter == letter && shown.further == 0 && !shown.inside && shown.stack.is_empty()
+    shown.further == 0 && !shown.inside && shown.stack.is_empty()
 }
 
-// Whether a Live task is shown so, which has the processor or is ready.
-fn is_live_as_shown(shown: &Shown, standing: &Standing, letter: Letter) -> bool
-    ensures { result ≡ true → shown.now ≡ record { letter = letter; further = standing.now.further; events = shown.now.events; inside = standing.now.inside; stack = standing.now.held } }
+// Whether of a Live task this is shown, but for the letter and the events.
+fn is_live_as_shown(shown: &Shown, standing: &Standing) -> bool
+    ensures { result ≡ true → shown.now ≡ record { letter = shown.now.letter; further = standing.now.further; events = shown.now.events; inside = standing.now.inside; stack = standing.now.held } }
 {
-    shown.letter == letter
+    shown.inside == standing.inside
         && shown.further == standing.further
-        && shown.inside == standing.inside
         && holds_as(&shown.stack, &standing.held)
 }
 
@@ -124,35 +113,116 @@ fn live_letter(current: Option<TaskNo>, task: TaskNo) -> Letter
     }
 }
 
-fn is_as_shown(shown: &Shown, state: &State, current: Option<TaskNo>, task: TaskNo) -> bool
-    requires known { task.0 < length state.now.tasks }
+// Whether a line shows a task so. It may say no where it does.
+#[inline(always)]
+fn is_as_shown(shown: &Shown, state: &State, current: Option<TaskNo>, task: usize) -> bool
+    requires known { task < length state.now.tasks }
+    requires few { task < 256 }
     requires current { current ≡ task_of state.now.processor }
-    ensures { result ≡ true → shown.now ≡ what_is_shown state.now task.0 }
+    ensures { result ≡ true → shown.now ≡ what_is_shown state.now task }
 {
-    let task_state = state.task(task);
+    let task_state = state.tasks.at(task);
     if shown.events != task_state.events {
         return false;
     }
     match &task_state.activity {
-        Activity::Suspended => is_bare(shown, Letter::S),
-        Activity::Waiting(_) => is_bare(shown, Letter::W),
-        Activity::Live(standing) => is_live_as_shown(shown, standing, live_letter(current, task)),
+        Activity::Suspended => shown.letter == Letter::S && is_bare(shown),
+        Activity::Waiting(_) => shown.letter == Letter::W && is_bare(shown),
+        Activity::Live(standing) => {
+            let letter = live_letter(current, TaskNo(task as u8));
+            shown.letter == letter && is_live_as_shown(shown, standing)
+        }
     }
 }
 
-/// Whether a line shows the tasks of a state so. It may say no where it does.
-pub(crate) fn are_as_shown(shown: &[Shown], app: &App, state: &State) -> bool
+/// How many of the first tasks a line shows so. It may be fewer than are.
+pub(crate) fn shown_so_far(
+    kept: &[KeptTask],
+    app: &App,
+    state: &State,
+    current: Option<TaskNo>,
+) -> usize
     requires well { Well app.now state.now }
-    ensures { result ≡ true → shown.now ≡ what_all_show app.now state.now }
+    requires whole { length kept.now ≡ length app.now.tasks }
+    requires current { current ≡ task_of state.now.processor }
+    ensures within { result ≤ length app.now.tasks }
+    ensures shown { (t : ℕ) → t < result → shown_before kept.now t ≡ what_is_shown state.now t }
 {
-    if shown.len() != app.tasks.len() {
-        return false;
-    }
-    let current = state.current();
     for task in 0..app.tasks.len() {
-        if !is_as_shown(&shown[task], state, current, TaskNo(task as u8)) {
-            return false;
+        if !is_as_shown(&kept[task].shown, state, current, task) {
+            return task;
         }
     }
-    true
+    app.tasks.len()
+}
+
+// The letter of a task, where all else that is shown of it is as it was.
+fn letter_beside(
+    shown: &Shown,
+    state: &State,
+    current: Option<TaskNo>,
+    task: TaskNo,
+) -> Option<Letter>
+    requires known { task.0 < length state.now.tasks }
+    requires current { current ≡ task_of state.now.processor }
+    ensures { IfSome result (λ l. what_is_shown state.now task.0 ≡ with_letter shown.now l) }
+{
+    let task_state = state.task(task);
+    if shown.events != task_state.events {
+        return None;
+    }
+    match &task_state.activity {
+        Activity::Suspended => is_bare(shown).then_some(Letter::S),
+        Activity::Waiting(_) => is_bare(shown).then_some(Letter::W),
+        Activity::Live(standing) => {
+            is_live_as_shown(shown, standing).then_some(live_letter(current, task))
+        }
+    }
+}
+
+fn is_suspended(letter: Letter) -> bool
+    ensures { result ≡ is_suspended_letter letter }
+{
+    match letter {
+        Letter::S => true,
+        Letter::Y | Letter::R | Letter::W => false,
+    }
+}
+
+// Whether the events of a task are shown with one letter as with another: a suspended task shows none.
+fn keeps_events(task: &Task, old: Letter, new: Letter) -> bool
+    ensures { (x : AShown) → x.letter ≡ old → result ≡ true → shown_events task.now (with_letter x new) ≡ shown_events task.now x }
+{
+    if task.own.is_empty() {
+        return true;
+    }
+    if is_suspended(old) {
+        is_suspended(new)
+    } else {
+        !is_suspended(new)
+    }
+}
+
+/// The letter of a task, where nothing of its text changes but that. It may answer none where that is so.
+pub(crate) fn letter_in_place(
+    shown: &Shown,
+    app: &App,
+    state: &State,
+    current: Option<TaskNo>,
+    task: TaskNo,
+) -> Option<Letter>
+    requires known { task.0 < length state.now.tasks }
+    requires task { task.0 < length app.now.tasks }
+    requires current { current ≡ task_of state.now.processor }
+    ensures shown { IfSome result (λ l. what_is_shown state.now task.0 ≡ with_letter shown.now l) }
+    ensures events { IfSome result (λ l. KeepsEvents app.now task.0 shown.now l) }
+{
+    let letter = letter_beside(shown, state, current, task)?;
+    if letter == shown.letter {
+        return Some(letter);
+    }
+    if keeps_events(app.task(task), shown.letter, letter) {
+        return Some(letter);
+    }
+    None
 }

@@ -1,14 +1,16 @@
 //! A line of the trace.
-ghost use Rattle.std.specs.{Prelude.{◌≡◌, ◌+◌, ◌*◌, ◌<◌, ◌≤◌, [], ◌∷◌, ◌++◌, All, length, take, if◌then◌else◌, None, true}, List.{flat_map, enumerate_from, cons_option}};
+ghost use Rattle.std.specs.{Prelude.{◌≡◌, ◌+◌, ◌*◌, ◌<◌, ◌≤◌, [], ◌∷◌, ◌++◌, All, length, take, slice_index_or, if◌then◌else◌, None, true, ℕ}, List.{flat_map, cons_option, sum_by}};
 ghost use Rattle.osek_values.specs.declared.numbers.ResNo.{ResNo as AResource};
 ghost use Rattle.osek_standard.specs.{declared.app.App.{App}, Apps.{the_task, source_count}, Dispatch.{stepped}};
 ghost use Rattle.osek_standard.specs.{TraceText.{who, events_text, resource_text, task_text, line_text, further_text, routine_text}, Well.{Well, IsActivityOf}};
 ghost use Rattle.osek_standard.specs.{Internal.{internal_of, occupied}, States.{source_state, is_source_at}};
-ghost use Rattle.trace_text.specs.{Labels.{label_texts}, LineParts.{tasks_text, routines_text}};
+ghost use Rattle.trace_text.specs.{Labels.{label_texts}, LineParts.{tasks_text, routines_text, kept_texts, not_shown, IsKept}};
 
 use crate::labels::{Labels, MAX_SOURCES};
 use crate::line_parts::LineParts;
+use crate::shown::{KeptTask, shown_of};
 use crate::trace_notes::{put_notes, state_mark};
+use arrayvec::ArrayVec;
 use osek_standard::{Activity, App, Processor, Source, State, Task, TaskState};
 use osek_values::limits::{LINE_MAX, MAX_RESOURCES, MAX_TASKS};
 use osek_values::{Notes, ResNo, SourceNo, TaskNo};
@@ -25,7 +27,7 @@ const MAX_FURTHER: usize = 1 + MAX_DECIMAL;
 const MAX_OCCUPIED: usize = MAX_RESOURCES * MAX_LABEL;
 /// The most bytes of a task: its label, a mark, a letter, its further activations, its events, and the labels of what it
 /// has.
-const MAX_TASK: usize = MAX_LABEL + 2 + MAX_FURTHER + MAX_TASK_EVENTS + MAX_OCCUPIED;
+pub(crate) const MAX_TASK: usize = MAX_LABEL + 2 + MAX_FURTHER + MAX_TASK_EVENTS + MAX_OCCUPIED;
 /// The most bytes of a routine: its label, and the labels of what it holds.
 const MAX_ROUTINE: usize = MAX_LABEL + MAX_OCCUPIED;
 
@@ -143,7 +145,8 @@ fn put_occupied(
     }
 }
 
-fn put_task(
+/// Puts a task.
+pub(crate) fn put_task(
     buf: &mut [u8],
     at: usize,
     labels: &Labels,
@@ -166,23 +169,33 @@ fn put_task(
     put_occupied(buf, at, labels, app, task, task_state)
 }
 
-/// Puts all tasks.
+/// Puts all tasks at the front of a buffer, and keeps of each what is shown and how many bytes that has.
 pub(crate) fn put_tasks(
     buf: &mut [u8],
-    from: usize,
+    kept: &mut ArrayVec<KeptTask, MAX_TASKS>,
     labels: &Labels,
     app: &App,
     state: &State,
 ) -> usize
     requires well { Well app.now state.now }
     requires labelled { labels.now ≡ label_texts app.now }
-    requires room { from + MAX_TASKS * MAX_TASK + LABEL_ROOM ≤ length buf.old }
-    ensures text { take result buf.new ≡ take from buf.old ++ flat_map (task_text app.now state.now) (enumerate_from 0 app.now.tasks) }
-    ensures most { result ≤ from + MAX_TASKS * MAX_TASK }
+    requires room { MAX_ALL_TASKS + LABEL_ROOM ≤ length buf.old }
+    requires empty { kept.old.items ≡ [] }
+    ensures text { take result buf.new ≡ tasks_text app.now state.now }
+    ensures most { result ≤ MAX_ALL_TASKS }
+    ensures kept { (t : ℕ) → t < length kept.new.items → IsKept app.now t (slice_index_or kept.new.items t not_shown) }
+    ensures same { take result buf.new ≡ kept_texts app.now 0 kept.new.items }
+    ensures size { result ≡ sum_by (λ k. k.size) kept.new.items }
 {
-    let mut at = from;
+    let mut at = 0;
     for task in 0..app.tasks.len() {
-        at = put_task(buf, at, labels, app, state, TaskNo(task as u8));
+        let task = TaskNo(task as u8);
+        let end = put_task(buf, at, labels, app, state, task);
+        kept.push(KeptTask {
+            shown: shown_of(state, task),
+            size: end - at,
+        });
+        at = end;
     }
     at
 }
