@@ -28,17 +28,24 @@ fn of_all(alloc: Global, app: &App, test: &Test) -> Result<Seq<Condition>, Memor
 {
     let mut conditions = Seq::new(alloc);
     for task in 0..app.tasks.len() {
-        conditions.push(of_task(TaskNo(task as u8), test.copy()))?;
+        let test = test.copy(alloc)?;
+        conditions.push(of_task(TaskNo(task as u8), test))?;
     }
-    add_of_sources(app, test, &mut conditions)?;
+    add_of_sources(alloc, app, test, &mut conditions)?;
     Ok(conditions)
 }
 
-fn add_of_sources(app: &App, test: &Test, conditions: &mut Seq<Condition>) -> Result<(), Memory>
+fn add_of_sources(
+    alloc: Global,
+    app: &App,
+    test: &Test,
+    conditions: &mut Seq<Condition>,
+) -> Result<(), Memory>
     ensures { OnOk result (conditions.new ≡ conditions.old ++ map (λ l. of_source app.now l test.now) (range_with_len 0 (source_count app.now))) }
 {
     for source in 0..app.counters.len() + app.isrs.len() {
-        conditions.push(of_source(app, SourceNo(source as u8), test.copy()))?;
+        let test = test.copy(alloc)?;
+        conditions.push(of_source(app, SourceNo(source as u8), test))?;
     }
     Ok(())
 }
@@ -53,7 +60,7 @@ fn is_held_by(
     ensures { IfOk result (λ case. case ≡ is_held_by runner next holder.now) }
 {
     let mut conditions = Seq::new(alloc);
-    conditions.push(holder.copy())?;
+    conditions.push(holder.copy(alloc)?)?;
     runner.goes_on(alloc, next, conditions, Asked::No, Some(Status::Access))
 }
 

@@ -11,7 +11,7 @@ use Rattle.abstract_state.specs.declared.value.{Component.{Component}, PartValue
 use Rattle.abstract_state.specs.declared.value.Component.TheVariants as component
 use Rattle.abstract_state.specs.Components.{component_count, component_at, component_number, part_of, abstract_of, value_in, is_armed, IsComponent}
 use Rattle.abstract_state.proofs.{ComponentLaws.{component_numbered, component_known, task_at_its_number}, Numbers.{component_here}}
-use Rattle.flow_model.specs.{declared.change.Change.{Change}, Tests.{updated, value_after}, Changes.{task_change, alarm_change, event_change, event_changes}}
+use Rattle.flow_model.specs.{declared.change.{Change.{Change}, Update.{Update}}, Tests.{updated, value_after}, Runners.{change}, Changes.{task_change, alarm_change, event_change, event_changes}}
 use Rattle.flow_model.proofs.{ChangeLaws.{change_here, change_there, elsewhere, made}, BitsOf.{bits_among, among_bits}}
 
 -- the task of an event
@@ -113,6 +113,19 @@ module _ (app : App) where
               change_here (task_change t (value_in x.activity)) (event_changes app t bits flag) c (abstract_of app s c) same
               ∙ ap (value_after (event_changes app t bits flag) c) (ap OfTask kept ∙ sym (ap (part_of s) at)))
           | inr other ↦ change_there (task_change t (value_in x.activity)) (event_changes app t bits flag) c (abstract_of app s c) other
+        ]
+
+        -- where an update makes that of the task
+        pub update_written : (u : Update) → updated u (OfTask (value_in (task_state s t).activity)) ≡ OfTask (value_in x.activity) → abstract_of app (with_task s t x) c ≡ value_after (change t u ∷ event_changes app t bits flag) c (abstract_of app s c)
+        update_written u becomes = task_written ∙ elim (cases_eq t c) [
+          | inl same ↦
+              (let at : component_at app c ≡ component.Task (task_no t) = ap (component_at app) (sym same) ∙ task_at_its_number app t known in
+              change_here (task_change t (value_in x.activity)) (event_changes app t bits flag) c (abstract_of app s c) same
+              ∙ ap (value_after (event_changes app t bits flag) c) (sym becomes ∙ ap (updated u) (sym (ap (part_of s) at)))
+              ∙ sym (change_here (change t u) (event_changes app t bits flag) c (abstract_of app s c) same))
+          | inr other ↦
+              (change_there (task_change t (value_in x.activity)) (event_changes app t bits flag) c (abstract_of app s c) other
+              ∙ sym (change_there (change t u) (event_changes app t bits flag) c (abstract_of app s c) other))
         ]
 
   module _ (s : State) (a : ℕ) (x : AlarmState) (here : a < length s.alarms) (known : a < length app.alarms) (c : ℕ) (lt : c < component_count app) where

@@ -9,7 +9,7 @@ use Rattle.flow_model.specs.declared.test.{Test.{Test}, Condition.{Condition}}
 use Rattle.flow_model.specs.declared.test.Test.TheVariants as test
 use Rattle.flow_model.specs.declared.change.{Update.{Update}, Change.{Change}}
 use Rattle.flow_model.specs.declared.change.Update.TheVariants as update
-use Rattle.flow_model.specs.Values.{is_suspended_value, held_of, held_by_routine, further_of, has_room, is_full_value, restacked_part, with_top, without_top, activated_more, begun_again, outside_at}
+use Rattle.flow_model.specs.Values.{is_suspended_value, held_of, held_by_routine, further_of, has_room, is_full_value, restacked_part, with_top, without_top, activated_more, begun_again, outside_at, waits_at, released}
 
 -- a test of a task's value; what is no task's passes
 abbrev pub of_task : (Val → Bool) → PartValue → Bool
@@ -47,6 +47,8 @@ passes (test.Full n) v = of_task (is_full_value n) v
 passes (test.Room n) v = of_task (has_room n) v
 passes test.NoFurther v = of_task (λ x. further_of x == 0) v
 passes test.SomeFurther v = of_task (λ x. not (further_of x == 0)) v
+passes (test.WaitsAt r) v = of_task (waits_at r) v
+passes (test.WaitsNotAt r) v = of_task (λ x. not (waits_at r x)) v
 
 -- what becomes of a task's value; what is no task's stays
 abbrev pub on_task : (Val → Val) → PartValue → PartValue
@@ -64,6 +66,7 @@ updated update.More v = on_task activated_more v
 updated (update.Again b) v = on_task (begun_again b) v
 updated (update.Leave b) v = on_task (outside_at b) v
 updated update.Inside v = on_task (inside_val true) v
+updated (update.Release r) v = on_task (released r) v
 
 -- What becomes of a value of component c: what the changes that name it say, one after another.
 abbrev pub value_after : List Change → ℕ → PartValue → PartValue

@@ -1,10 +1,11 @@
 -- What tests and the scheduler read of a task's value.
-use Rattle.std.specs.{Prelude.{ℕ, ◌+◌, ◌-◌, Bool, true, false, not, nat_lt, List, [], ◌∷◌, ◌++◌, length, take, None, if◌then◌else◌}, List.{cons_option}}
+use Rattle.std.specs.{Prelude.{ℕ, ◌+◌, ◌-◌, Bool, true, false, not, nat_lt, List, [], ◌∷◌, ◌++◌, length, take, slice_index_or, Some, None, is_some, if◌then◌else◌}, List.{cons_option}, declared.option.Option.{Option}}
 use Rattle.osek_values.specs.{Numbers.{block_no}, declared.{limits.TheConstants.{MAX_ACTIVATIONS, MAX_RESOURCES}, numbers.{BlockNo.{BlockNo}, ResNo.{ResNo}}}}
 use Rattle.osek_standard.specs.{declared.app.App.{App}, Internal.{internal_of}, Priority.{base_priority, highest}}
 use Rattle.abstract_state.specs.declared.value.{Val.{Val, TheVariants.{Suspended, Live, Waiting}}, SourceVal.{SourceVal}, PartValue.{PartValue, TheVariants.{OfTask, OfEvent, OfAlarm, OfSource}}}
 use Rattle.abstract_state.specs.{Components.{live_val, routine_val}, Settling.{inside_val}}
 use Rattle.abstract_state.specs.declared.value.SourceVal.TheVariants as source_val
+use Rattle.flow_model.specs.declared.release.Releases.{Releases}
 
 abbrev pub is_suspended_value : Val → Bool
 is_suspended_value Suspended = true
@@ -112,6 +113,27 @@ begun_again b (Waiting c) = Waiting c
 -- a Live task at another block, outside
 abbrev pub outside_at : BlockNo → Val → Val
 outside_at b v = inside_val false (at_block b v)
+
+-- where a task goes on that waits at a block, if it is released
+abbrev pub next_behind : Releases → BlockNo → Option BlockNo
+next_behind x b = if nat_lt b.0 x.first.0 then None else slice_index_or x.next (b.0 - x.first.0) None
+
+-- it waits at one of the blocks from which it is released
+abbrev pub waits_at : Releases → Val → Bool
+waits_at x Suspended = false
+waits_at x (Live y) = false
+waits_at x (Waiting b) = is_some (next_behind x b)
+
+-- a task that waits at a block: where it goes on, if it is released, it is Live, outside and with nothing held
+abbrev pub released_to : BlockNo → Option BlockNo → Val
+released_to b None = Waiting b
+released_to b (Some n) = Live (live_val n 0 false [])
+
+-- a task that waits at one of the blocks from which it is released, after that
+abbrev pub released : Releases → Val → Val
+released x Suspended = Suspended
+released x (Live y) = Live y
+released x (Waiting b) = released_to b (next_behind x b)
 
 -- it has its INTERNAL resource
 abbrev pub is_inside_value : Val → Bool

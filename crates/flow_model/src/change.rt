@@ -4,11 +4,13 @@ ghost use Rattle.abstract_state.specs.declared.value.PartValue.TheVariants as pa
 ghost use Rattle.abstract_state.specs.declared.value.Val.TheVariants as val;
 ghost use Rattle.abstract_state.specs.declared.value.SourceVal.TheVariants as source_val;
 ghost use Rattle.abstract_state.specs.Components.{live_val, routine_val};
-ghost use Rattle.flow_model.specs.{Values.{one_further as one_further_of, with_top as with_top_of, without_top as without_top_of}, Tests.{value_after as value_after_of}};
+ghost use Rattle.flow_model.specs.{Values.{released as released_of, one_further as one_further_of, with_top as with_top_of, without_top as without_top_of}, Tests.{value_after as value_after_of}};
 
+use crate::release::Releases;
 use abstract_state::{ComponentNo, LiveVal, PartValue, RoutineVal, SourceVal, Val};
 use osek_values::limits::{MAX_ACTIVATIONS, MAX_RESOURCES};
-use osek_values::{BlockNo, Held, ResNo};
+use osek_values::{BlockNo, Held, Memory, ResNo};
+use std::alloc::Global;
 
 /// What becomes of a component's value.
 #[derive(Drop)]
@@ -30,6 +32,8 @@ pub enum Update {
     Leave(BlockNo),
     /// A Live task has its INTERNAL resource.
     Inside,
+    /// A task that waits at one of the blocks from which it is released is Live at the one behind, outside and with nothing held.
+    Release(Releases),
 }
 
 /// What becomes of one component.
@@ -40,7 +44,7 @@ pub struct Change {
 }
 
 impl Update {
-    ghost use Rattle.std.specs.Prelude.{◌≡◌};
+    ghost use Rattle.std.specs.Prelude.{◌≡◌, IfOk};
     ghost use Rattle.flow_model.specs.Tests.{updated};
 
     /// What becomes of a value. It takes no memory.
@@ -74,41 +78,49 @@ impl Update {
                 flagged(*block, live, false)
             }
             (Update::Inside, PartValue::OfTask(Val::Live(live))) => flagged(live.block, live, true),
+            (Update::Release(releases), PartValue::OfTask(Val::Waiting(block))) => {
+                released(releases, *block)
+            }
             _ => value.copy(),
         }
     }
 
-    /// Another that is the same. It takes no memory.
-    pub fn copy(&self) -> Update
-        ensures { result ≡ self.now }
+    /// Another that is the same.
+    pub fn copy(&self, alloc: Global) -> Result<Update, Memory>
+        ensures { IfOk result (λ x. x ≡ self.now) }
     {
         match self {
-            Update::Set(to) => Update::Set(to.copy()),
-            Update::Block(block) => Update::Block(*block),
-            Update::Take { resource, block } => Update::Take {
+            Update::Set(to) => Ok(Update::Set(to.copy())),
+            Update::Block(block) => Ok(Update::Block(*block)),
+            Update::Take { resource, block } => Ok(Update::Take {
                 resource: *resource,
                 block: *block,
-            },
-            Update::Give { block } => Update::Give { block: *block },
-            Update::More => Update::More,
-            Update::Again(block) => Update::Again(*block),
-            Update::Leave(block) => Update::Leave(*block),
-            Update::Inside => Update::Inside,
+            }),
+            Update::Give { block } => Ok(Update::Give { block: *block }),
+            Update::More => Ok(Update::More),
+            Update::Again(block) => Ok(Update::Again(*block)),
+            Update::Leave(block) => Ok(Update::Leave(*block)),
+            Update::Inside => Ok(Update::Inside),
+            Update::Release(releases) => {
+                let copy = releases.copy(alloc)?;
+                Ok(Update::Release(copy))
+            }
         }
     }
 }
 
 impl Change {
-    ghost use Rattle.std.specs.Prelude.{◌≡◌};
+    ghost use Rattle.std.specs.Prelude.{◌≡◌, IfOk};
 
-    /// Another that is the same. It takes no memory.
-    pub fn copy(&self) -> Change
-        ensures { result ≡ self.now }
+    /// Another that is the same.
+    pub fn copy(&self, alloc: Global) -> Result<Change, Memory>
+        ensures { IfOk result (λ x. x ≡ self.now) }
     {
-        Change {
+        let update = self.update.copy(alloc)?;
+        Ok(Change {
             component: self.component,
-            update: self.update.copy(),
-        }
+            update,
+        })
     }
 }
 
@@ -169,6 +181,16 @@ fn begun(block: BlockNo, further: u8) -> PartValue
         inside: false,
         held: Held::new(),
     }))
+}
+
+// a task that waits at a block, after it is released where it is
+fn released(releases: &Releases, block: BlockNo) -> PartValue
+    ensures { result ≡ part.OfTask (released_of releases.now (val.Waiting block)) }
+{
+    match releases.behind(block) {
+        Some(next) => begun(next, 0),
+        None => PartValue::OfTask(Val::Waiting(block)),
+    }
 }
 
 // a Live task at a block, inside or not

@@ -2,9 +2,12 @@
 ghost use Rattle.std.specs.{Prelude.{◌≡◌, ◌+◌, nat_lt}, List.{list_any}};
 ghost use Rattle.osek_values.specs.{declared.numbers.ResNo.{ResNo}, Bits.{has_bit}};
 ghost use Rattle.osek_standard.specs.Services.{is_on_top as is_on_top_of};
+ghost use Rattle.flow_model.specs.Values.{waits_at as waits_at_of};
 
+use crate::release::Releases;
 use abstract_state::{ComponentNo, PartValue, SourceVal, Val};
-use osek_values::{Held, Mask, ResNo};
+use osek_values::{Held, Mask, Memory, ResNo};
+use std::alloc::Global;
 
 /// A test of a component's value. What is no task's and no source's passes the tests of what is held, and what is no task's
 /// passes those of activity.
@@ -34,6 +37,9 @@ pub enum Test {
     /// No further activation of the task is left.
     NoFurther,
     SomeFurther,
+    /// The task waits at one of the blocks from which it is released.
+    WaitsAt(Releases),
+    WaitsNotAt(Releases),
 }
 
 /// A test of one component.
@@ -44,7 +50,7 @@ pub struct Condition {
 }
 
 impl Test {
-    ghost use Rattle.std.specs.Prelude.{◌≡◌};
+    ghost use Rattle.std.specs.Prelude.{◌≡◌, IfOk};
     ghost use Rattle.flow_model.specs.Tests.{passes};
 
     /// Whether a value passes.
@@ -97,44 +103,65 @@ impl Test {
             (Test::NoFurther, PartValue::OfTask(Val::Live(live))) => live.further == 0,
             (Test::SomeFurther, PartValue::OfTask(Val::Live(live))) => live.further != 0,
             (Test::SomeFurther, PartValue::OfTask(_)) => false,
+            (Test::WaitsAt(releases), PartValue::OfTask(val)) => waits_at(releases, val),
+            (Test::WaitsNotAt(releases), PartValue::OfTask(val)) => !waits_at(releases, val),
             _ => true,
         }
     }
 
-    /// Another that is the same. It takes no memory.
-    pub fn copy(&self) -> Test
-        ensures { result ≡ self.now }
+    /// Another that is the same.
+    pub fn copy(&self, alloc: Global) -> Result<Test, Memory>
+        ensures { IfOk result (λ x. x ≡ self.now) }
     {
         match self {
-            Test::Is(value) => Test::Is(value.copy()),
-            Test::IsNot(value) => Test::IsNot(value.copy()),
-            Test::Suspended => Test::Suspended,
-            Test::NotSuspended => Test::NotSuspended,
-            Test::Holds(resource) => Test::Holds(*resource),
-            Test::HoldsNoneOf(resources) => Test::HoldsNoneOf(*resources),
-            Test::HoldsSome => Test::HoldsSome,
-            Test::HoldsNothing => Test::HoldsNothing,
-            Test::OnTop(resource) => Test::OnTop(*resource),
-            Test::NotOnTop(resource) => Test::NotOnTop(*resource),
-            Test::Full(most) => Test::Full(*most),
-            Test::Room(most) => Test::Room(*most),
-            Test::NoFurther => Test::NoFurther,
-            Test::SomeFurther => Test::SomeFurther,
+            Test::Is(value) => Ok(Test::Is(value.copy())),
+            Test::IsNot(value) => Ok(Test::IsNot(value.copy())),
+            Test::Suspended => Ok(Test::Suspended),
+            Test::NotSuspended => Ok(Test::NotSuspended),
+            Test::Holds(resource) => Ok(Test::Holds(*resource)),
+            Test::HoldsNoneOf(resources) => Ok(Test::HoldsNoneOf(*resources)),
+            Test::HoldsSome => Ok(Test::HoldsSome),
+            Test::HoldsNothing => Ok(Test::HoldsNothing),
+            Test::OnTop(resource) => Ok(Test::OnTop(*resource)),
+            Test::NotOnTop(resource) => Ok(Test::NotOnTop(*resource)),
+            Test::Full(most) => Ok(Test::Full(*most)),
+            Test::Room(most) => Ok(Test::Room(*most)),
+            Test::NoFurther => Ok(Test::NoFurther),
+            Test::SomeFurther => Ok(Test::SomeFurther),
+            Test::WaitsAt(releases) => {
+                let copy = releases.copy(alloc)?;
+                Ok(Test::WaitsAt(copy))
+            }
+            Test::WaitsNotAt(releases) => {
+                let copy = releases.copy(alloc)?;
+                Ok(Test::WaitsNotAt(copy))
+            }
         }
     }
 }
 
 impl Condition {
-    ghost use Rattle.std.specs.Prelude.{◌≡◌};
+    ghost use Rattle.std.specs.Prelude.{◌≡◌, IfOk};
 
-    /// Another that is the same. It takes no memory.
-    pub fn copy(&self) -> Condition
-        ensures { result ≡ self.now }
+    /// Another that is the same.
+    pub fn copy(&self, alloc: Global) -> Result<Condition, Memory>
+        ensures { IfOk result (λ x. x ≡ self.now) }
     {
-        Condition {
+        let test = self.test.copy(alloc)?;
+        Ok(Condition {
             component: self.component,
-            test: self.test.copy(),
-        }
+            test,
+        })
+    }
+}
+
+// whether a task with this value waits at one of the blocks from which it is released
+fn waits_at(releases: &Releases, val: &Val) -> bool
+    ensures { result ≡ waits_at_of releases.now val.now }
+{
+    match val {
+        Val::Waiting(block) => releases.behind(*block).is_some(),
+        Val::Suspended | Val::Live(_) => false,
     }
 }
 

@@ -94,8 +94,8 @@ impl<'a> Reached<'a> {
         requires among { Contains self.now.rows.now row.now }
         ensures { Decides result (IsHeldByTask self.now.app.now resource (plain_row self.now.pool.now row.now)) }
     {
-        let held = Test::Holds(resource);
         for task in 0..self.app.tasks.len() {
+            let held = Test::Holds(resource);
             if has_passing(self.pool, &row.entry, task, &held) {
                 return true;
             }
@@ -108,8 +108,8 @@ impl<'a> Reached<'a> {
         requires among { Contains self.now.rows.now row.now }
         ensures { Decides result (IsHeldByRoutine self.now.app.now resource (plain_row self.now.pool.now row.now)) }
     {
-        let held = Test::Holds(resource);
         for source in 0..self.app.counters.len() + self.app.isrs.len() {
+            let held = Test::Holds(resource);
             let component = component_number(self.app, Component::Source(SourceNo(source as u8)));
             if has_passing(self.pool, &row.entry, component.index(), &held) {
                 return true;

@@ -33,12 +33,12 @@ fn rule_of(
     ensures { IfOk result (λ rule. rule ≡ rule_of_cases app.now effect.now outcome.now) }
 {
     let mut conditions = Seq::new(alloc);
-    add_conditions(&mut conditions, effect.conditions.as_slice())?;
-    add_conditions(&mut conditions, outcome.conditions.as_slice())?;
+    add_conditions(alloc, &mut conditions, effect.conditions.as_slice())?;
+    add_conditions(alloc, &mut conditions, outcome.conditions.as_slice())?;
     let mut changes = Seq::new(alloc);
-    add_changes(&mut changes, effect.changes.as_slice())?;
+    add_changes(alloc, &mut changes, effect.changes.as_slice())?;
     let settling = settling_changes(alloc, app, effect.leaving.stay, outcome.decision)?;
-    add_changes(&mut changes, settling.as_slice())?;
+    add_changes(alloc, &mut changes, settling.as_slice())?;
     Ok(Rule {
         conditions,
         changes,
@@ -48,20 +48,20 @@ fn rule_of(
     })
 }
 
-fn add_changes(to: &mut Seq<Change>, from: &[Change]) -> Result<(), Memory>
+fn add_changes(alloc: Global, to: &mut Seq<Change>, from: &[Change]) -> Result<(), Memory>
     ensures { OnOk result (to.new ≡ to.old ++ from.now) }
 {
     for change in from {
-        to.push(change.copy())?;
+        to.push(change.copy(alloc)?)?;
     }
     Ok(())
 }
 
-fn add_conditions(to: &mut Seq<Condition>, from: &[Condition]) -> Result<(), Memory>
+fn add_conditions(alloc: Global, to: &mut Seq<Condition>, from: &[Condition]) -> Result<(), Memory>
     ensures { OnOk result (to.new ≡ to.old ++ from.now) }
 {
     for condition in from {
-        to.push(condition.copy())?;
+        to.push(condition.copy(alloc)?)?;
     }
     Ok(())
 }

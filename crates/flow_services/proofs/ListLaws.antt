@@ -24,3 +24,11 @@ two_and_mapped {X} {Y} {Z} f g old one two all a b zs first second rest =
     ∙ append_assoc (old ++ f a ∷ []) (f b ∷ []) (map (λ (z : Z). f (g z)) zs)
     ∙ append_assoc old (f a ∷ []) (f b ∷ map (λ (z : Z). f (g z)) zs)
     ∙ ap (λ (ys : List Y). old ++ f a ∷ f b ∷ ys) (sym (map-map f g zs))
+
+-- three, one after another
+pub three_cases : {X Y : Type 0} (f : X → Y) (old one two all : List Y) (a b d : X) → one ≡ old ++ f a ∷ [] → two ≡ one ++ f b ∷ [] → all ≡ two ++ f d ∷ [] → all ≡ old ++ map f (a ∷ b ∷ d ∷ [])
+three_cases {X} {Y} f old one two all a b d first second third =
+    third
+    ∙ ap (λ (ys : List Y). ys ++ f d ∷ []) (second ∙ ap (λ (ys : List Y). ys ++ f b ∷ []) first)
+    ∙ append_assoc (old ++ f a ∷ []) (f b ∷ []) (f d ∷ [])
+    ∙ append_assoc old (f a ∷ []) (f b ∷ f d ∷ [])

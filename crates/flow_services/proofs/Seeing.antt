@@ -9,9 +9,9 @@ use Rattle.osek_standard.specs.declared.{app.App.{App}, state.State.{State}, tas
 use Rattle.osek_standard.specs.declared.task_state.Activity.TheVariants as activity
 use Rattle.osek_standard.specs.{TaskStates.{is_live, is_live_activity, is_suspended, is_suspended_activity}, States.{is_that_task, task_of, task_state, alarm_state}, Line.{places, places_due}}
 use Rattle.osek_standard.specs.{Effects.{place_at, standing_at, moved_to}, Services.{is_full_by}, Well.{Well}}
-use Rattle.abstract_state.specs.declared.value.{Val.{Val, TheVariants.{Waiting}}, PartValue.TheVariants.{OfTask, OfAlarm}}
+use Rattle.abstract_state.specs.declared.value.PartValue.TheVariants.{OfTask, OfAlarm}
 use Rattle.abstract_state.specs.declared.value.Component.TheVariants as component
-use Rattle.abstract_state.specs.{Components.{component_number, part_of, abstract_of, value_in, is_armed}, ValueOrder.{same_part}}
+use Rattle.abstract_state.specs.{Components.{component_number, part_of, abstract_of, value_in, is_armed}}
 use Rattle.abstract_state.proofs.{ComponentLaws.{task_at_its_number, task_counted}, Numbers.{component_here}, OrderLaws.{part_right, part_itself}}
 use Rattle.flow_model.specs.declared.runner.Runner.{Runner}
 use Rattle.flow_model.specs.declared.test.Test.TheVariants as test
@@ -33,14 +33,6 @@ suspended_value : (a : Activity) → is_suspended_value (value_in a) ≡ is_susp
 suspended_value activity.Suspended = refl
 suspended_value (activity.Live x) = refl
 suspended_value (activity.Waiting b) = refl
-
-waiting_value : (a : Activity) (b : BlockNo) → value_in a ≡ Waiting b → waiting_block a ≡ Some b
-waiting_value activity.Suspended b e = absurd (cc)
-waiting_value (activity.Live x) b e = absurd (cc)
-waiting_value (activity.Waiting c) b e = ap (λ (d : BlockNo). Some d) (cc)
-
-value_waiting : (a : Activity) (b : BlockNo) → waiting_block a ≡ Some b → value_in a ≡ Waiting b
-value_waiting a b e = ap value_in (waits_there a b e)
 
 -- whether it takes a further activation
 fullness : (n k : ℕ) → not (nat_lt (k + 1) n) ≡ nat_le n (k + 1)
@@ -95,18 +87,6 @@ module _ (app : App) (s : State) (t : ℕ) (known : t < length app.tasks) where
 
   pub tests_room : (n : ℕ) → passes (test.Room n) (abstract_of app s t) ≡ (not (is_suspended (task_state s t)) && not (is_full_by n (task_state s t).activity))
   tests_room n = ap (passes (test.Room n)) task_value ∙ room_value n (task_state s t).activity
-
-  tests_is : (b : BlockNo) → passes (test.Is (OfTask (Waiting b))) (abstract_of app s t) ≡ same_part (OfTask (value_in (task_state s t).activity)) (OfTask (Waiting b))
-  tests_is b = ap (passes (test.Is (OfTask (Waiting b)))) task_value
-
-  pub waits_passes : (b : BlockNo) → waiting_block (task_state s t).activity ≡ Some b → passes (test.Is (OfTask (Waiting b))) (abstract_of app s t) ≡ true
-  waits_passes b e = tests_is b ∙ ap (λ (v : Val). same_part (OfTask v) (OfTask (Waiting b))) (value_waiting (task_state s t).activity b e) ∙ part_itself (OfTask (Waiting b))
-
-  pub passes_waits : (b : BlockNo) → passes (test.Is (OfTask (Waiting b))) (abstract_of app s t) ≡ true → waiting_block (task_state s t).activity ≡ Some b
-  passes_waits b e = waiting_value (task_state s t).activity b (of_task (part_right (OfTask (value_in (task_state s t).activity)) (OfTask (Waiting b)) (sym (tests_is b) ∙ e)))
-    where
-      of_task : {v w : Val} → OfTask v ≡ OfTask w → v ≡ w
-      of_task e = cc
 
 module _ (app : App) (s : State) (a : ℕ) (known : a < length app.alarms) where
   abbrev number : ℕ

@@ -1,5 +1,5 @@
 -- The cases of each service, in the order of ISO 17356-3.
-use Rattle.std.specs.{Prelude.{ℕ, ◌+◌, Bool, true, false, not, ◌==◌, ◌||◌, nat_lt, bit_and, List, [], ◌∷◌, ◌++◌, map, filter, Some, None, if◌then◌else◌}, List.{range_with_len}}
+use Rattle.std.specs.{Prelude.{ℕ, ◌+◌, Bool, true, false, not, ◌==◌, ◌||◌, nat_lt, bit_and, List, [], ◌∷◌, ◌++◌, map, Some, None, if◌then◌else◌}, List.{range_with_len}, declared.option.Option.{Option}}
 use Rattle.osek_values.specs.{declared.numbers.BlockNo.{BlockNo}, Numbers.{task_no, block_no, alarm_no}}
 use Rattle.osek_values.specs.declared.status.Status.TheVariants as status
 use Rattle.oil_system.specs.declared.objects.Action.{Action}
@@ -9,15 +9,17 @@ use Rattle.osek_standard.specs.declared.block.Kind.TheVariants as kind
 use Rattle.osek_standard.specs.declared.call.Call.{Call}
 use Rattle.flow_services.specs.CallNames as call
 use Rattle.osek_standard.specs.{Apps.{the_task, the_alarm, the_block, is_extended, max_of, is_cycle, awaited}, Services.{share}}
-use Rattle.abstract_state.specs.declared.value.{Val.TheVariants.{Live, Waiting}, PartValue.TheVariants.{OfTask, OfAlarm}}
+use Rattle.abstract_state.specs.declared.value.PartValue.TheVariants.{OfAlarm}
 use Rattle.abstract_state.specs.declared.value.Component.TheVariants as component
-use Rattle.abstract_state.specs.Components.{component_no, component_number, live_val}
+use Rattle.abstract_state.specs.Components.{component_no, component_number}
 use Rattle.flow_model.specs.declared.test.Condition.{Condition}
 use Rattle.flow_model.specs.declared.test.Test.TheVariants as test
+use Rattle.flow_model.specs.declared.change.Update.TheVariants as update
+use Rattle.flow_model.specs.declared.release.Releases.{Releases}
 use Rattle.flow_model.specs.declared.case.Asked.TheVariants as asked
 use Rattle.flow_model.specs.declared.{case.EffectCase.{EffectCase}, runner.Runner.{Runner}}
 use Rattle.flow_model.specs.declared.runner.Runner.TheVariants as runner
-use Rattle.flow_model.specs.{Cases.{condition, asked_after}, Changes.{task_change, alarm_change, event_changes, activating, activating_more}}
+use Rattle.flow_model.specs.{Runners.{change}, Cases.{condition, asked_after}, Changes.{alarm_change, event_changes, activating, activating_more}}
 use Rattle.flow_services.specs.{Occasions.{ServiceCase, refused_case, accepted_case, unnoted_case, case_at}, declared.occasion.{Expired.{Expired}, Occasion.{Occasion}}}
 use Rattle.flow_services.specs.declared.occasion.Queued.TheVariants as queued
 
@@ -55,12 +57,6 @@ is_service (kind.Expire a) = true
 abbrev pub always : ServiceCase → List ServiceCase
 always x = x ∷ []
 
-abbrev pub waits_at : ℕ → BlockNo → Condition
-waits_at x b = condition x (test.Is (OfTask (Waiting b)))
-
-abbrev pub waits_not_at : ℕ → BlockNo → Condition
-waits_not_at x b = condition x (test.IsNot (OfTask (Waiting b)))
-
 module _ (app : App) where
   -- how many activations a task takes at a time
   abbrev pub most_activations : ℕ → ℕ
@@ -87,31 +83,32 @@ module _ (app : App) where
   abbrev pub own_block : ℕ → ℕ → BlockNo
   own_block x k = block_no ((the_task app x).first.0 + k)
 
-  -- the blocks of a task at which it waits for one of these events
-  abbrev pub awaiting_blocks : ℕ → ℕ → List BlockNo
-  awaiting_blocks events x = map (own_block x) (filter (λ k. awaits events (own_block x k)) (range_with_len 0 (the_task app x).count))
+  -- where a task goes on that waits at a block, if one of these events releases it
+  abbrev pub release_at : ℕ → BlockNo → Option BlockNo
+  release_at events b = if awaits events b then Some (the_block app b.0).next else None
+
+  -- and so at each block of a task
+  abbrev pub releases : ℕ → ℕ → Releases
+  releases events x = record { first = (the_task app x).first; next = map (λ k. release_at events (own_block x k)) (range_with_len 0 (the_task app x).count) }
 
   abbrev pub own_among : ℕ → ℕ → ℕ
   own_among x m = bit_and m (the_task app x).own.0
 
-  -- a task that waits nowhere for one of the events: they are set
-  abbrev pub not_awaiting : ℕ → ℕ → List BlockNo → ServiceCase
-  not_awaiting x events blocks = accepted_case (condition x test.NotSuspended ∷ map (waits_not_at x) blocks) (event_changes app x events true) queued.Nothing
+  -- a task that none of the events releases: they are set
+  abbrev pub not_awaiting : ℕ → ℕ → Releases → ServiceCase
+  not_awaiting x events r = accepted_case (condition x test.NotSuspended ∷ condition x (test.WaitsNotAt r) ∷ []) (event_changes app x events true) queued.Nothing
 
   -- a task that waits for one is released too, to the block after
-  abbrev pub waking : ℕ → ℕ → BlockNo → ServiceCase
-  waking x events b = accepted_case (waits_at x b ∷ []) (task_change x (Live (live_val (the_block app b.0).next 0 false [])) ∷ event_changes app x events true) (queued.Last (task_no x))
+  abbrev pub waking : ℕ → ℕ → Releases → ServiceCase
+  waking x events r = accepted_case (condition x (test.WaitsAt r) ∷ []) (change x (update.Release r) ∷ event_changes app x events true) (queued.Last (task_no x))
 
-  abbrev pub settings : ℕ → ℕ → List BlockNo → List ServiceCase
-  settings x events blocks =
-      refused_case (condition x test.Suspended ∷ []) status.State
-      ∷ not_awaiting x events blocks
-      ∷ map (waking x events) blocks
+  abbrev pub settings : ℕ → ℕ → Releases → List ServiceCase
+  settings x events r = refused_case (condition x test.Suspended ∷ []) status.State ∷ not_awaiting x events r ∷ waking x events r ∷ []
 
   -- SetEvent: ACCESS of a basic task, STATE of a suspended one
   abbrev pub event_settings : ℕ → ℕ → List ServiceCase
   event_settings x m =
-      if is_extended app x then settings x (own_among x m) (awaiting_blocks (own_among x m) x)
+      if is_extended app x then settings x (own_among x m) (releases (own_among x m) x)
       else always (refused_case [] status.Access)
 
   -- ClearEvent: CALLEVEL in a routine, ACCESS of a basic task

@@ -1,15 +1,15 @@
 //! The cases of SetEvent, ClearEvent and GetEvent.
-ghost use Rattle.std.specs.Prelude.{◌≡◌, ◌<◌, ℕ, true, ◌++◌, length, map, All, IfOk, OnOk};
-ghost use Rattle.osek_values.specs.{declared.numbers.BlockNo.{BlockNo}, Bits.{has_bit as has_bit_of}};
+ghost use Rattle.std.specs.Prelude.{◌≡◌, ◌<◌, ℕ, true, ◌++◌, length, map, IfOk, OnOk};
+ghost use Rattle.osek_values.specs.Bits.{has_bit as has_bit_of};
 ghost use Rattle.osek_standard.specs.Apps.{the_task, awaited as awaited_at};
 ghost use Rattle.flow_model.specs.Runners.{IsKnown};
 ghost use Rattle.flow_services.specs.Occasions.{case_at};
-ghost use Rattle.flow_services.specs.Services.{awaits as awaits_at, awaiting_blocks as awaiting_blocks_of, not_awaiting as not_awaiting_case, waking as waking_case, event_settings, event_clearings as event_clearings_of, event_readings as event_readings_of};
+ghost use Rattle.flow_services.specs.Services.{awaits as awaits_at, release_at as release_at_of, releases as releases_of, not_awaiting as not_awaiting_case, waking as waking_case};
+ghost use Rattle.flow_services.specs.Services.{event_settings, event_clearings as event_clearings_of, event_readings as event_readings_of};
 
 use crate::occasion::{Occasion, Queued, one, only, task_component};
-use crate::tasks::{add_event_changes, add_live};
-use abstract_state::{PartValue, Val};
-use flow_model::{Condition, EffectCase, Runner, Test};
+use crate::tasks::add_event_changes;
+use flow_model::{Change, Condition, EffectCase, Releases, Runner, Test, Update};
 use osek_standard::{App, Call, Kind, MaskService};
 use osek_values::{BlockNo, Mask, Memory, Seq, Status, TaskNo};
 use std::alloc::Global;
@@ -33,94 +33,80 @@ fn awaits(app: &App, block: BlockNo, events: Mask) -> bool
     !awaited(app.block(block).kind).and(events).is_empty()
 }
 
-/// The blocks of a task at which it waits for one of these events.
-fn awaiting_blocks(
-    alloc: Global,
-    app: &App,
-    task: TaskNo,
-    events: Mask,
-) -> Result<Seq<BlockNo>, Memory>
-    requires { task.0 < length app.now.tasks }
-    ensures all { IfOk result (λ blocks. blocks ≡ awaiting_blocks_of app.now events.0 task.0) }
-    ensures there { IfOk result (λ blocks. All (λ (b : BlockNo). b.0 < length app.now.blocks) blocks) }
+/// Where a task goes on that waits at a block, if one of these events releases it.
+fn release_at(app: &App, block: BlockNo, events: Mask) -> Option<BlockNo>
+    requires { block.0 < length app.now.blocks }
+    ensures { result ≡ release_at_of app.now events.0 block }
 {
-    let own = app.task(task);
-    let mut blocks = Seq::new(alloc);
-    for number in 0..own.count {
-        let block = BlockNo(own.first.0 + number);
-        if awaits(app, block, events) {
-            blocks.push(block)?;
-        }
+    if !awaits(app, block, events) {
+        return None;
     }
-    Ok(blocks)
+    Some(app.block(block).next)
 }
 
-/// The case in which the task isn't suspended and waits at none of these blocks: the events are set.
+/// The blocks of a task from which these events release it.
+fn releases(alloc: Global, app: &App, task: TaskNo, events: Mask) -> Result<Releases, Memory>
+    requires { task.0 < length app.now.tasks }
+    ensures { IfOk result (λ x. x ≡ releases_of app.now events.0 task.0) }
+{
+    let own = app.task(task);
+    let mut next = Seq::of(Vec::with_capacity(alloc, own.count as usize)?);
+    for number in 0..own.count {
+        let block = BlockNo(own.first.0 + number);
+        next.push(release_at(app, block, events))?;
+    }
+    Ok(Releases {
+        first: own.first,
+        next,
+    })
+}
+
+/// The case in which the task isn't suspended, and isn't released: the events are set.
 fn not_awaiting(
     alloc: Global,
     app: &App,
     occasion: Occasion,
     task: TaskNo,
     events: Mask,
-    blocks: &Seq<BlockNo>,
+    releases: &Releases,
 ) -> Result<EffectCase, Memory>
     requires known { task.0 < length app.now.tasks }
     requires own { (k : ℕ) → has_bit_of events.0 k ≡ true → has_bit_of (the_task app.now task.0).own.0 k ≡ true }
-    ensures { IfOk result (λ case. case ≡ case_at occasion (not_awaiting_case app.now task.0 events.0 blocks.now)) }
+    ensures { IfOk result (λ case. case ≡ case_at occasion (not_awaiting_case app.now task.0 events.0 releases.now)) }
 {
     let component = task_component(task);
     let mut conditions = only(alloc, component, Test::NotSuspended)?;
-    for block in blocks.as_slice() {
-        conditions.push(Condition {
-            component,
-            test: Test::IsNot(PartValue::OfTask(Val::Waiting(*block))),
-        })?;
-    }
+    let elsewhere = Test::WaitsNotAt(releases.copy(alloc)?);
+    conditions.push(Condition {
+        component,
+        test: elsewhere,
+    })?;
     let mut changes = occasion.begun(alloc)?;
     add_event_changes(app, task, events, true, &mut changes)?;
     occasion.accepted(conditions, changes, Queued::Nothing)
 }
 
-/// The case in which the task waits at this block for one of the events: it is released from waiting.
+/// The case in which the task waits for one of the events: it is released from waiting.
 fn waking(
     alloc: Global,
     app: &App,
     occasion: Occasion,
     task: TaskNo,
     events: Mask,
-    block: BlockNo,
+    releases: &Releases,
 ) -> Result<EffectCase, Memory>
     requires known { task.0 < length app.now.tasks }
     requires own { (k : ℕ) → has_bit_of events.0 k ≡ true → has_bit_of (the_task app.now task.0).own.0 k ≡ true }
-    requires there { block.0 < length app.now.blocks }
-    ensures { IfOk result (λ case. case ≡ case_at occasion (waking_case app.now task.0 events.0 block)) }
+    ensures { IfOk result (λ case. case ≡ case_at occasion (waking_case app.now task.0 events.0 releases.now)) }
 {
-    let waits = PartValue::OfTask(Val::Waiting(block));
-    let conditions = only(alloc, task_component(task), Test::Is(waits))?;
+    let component = task_component(task);
+    let waits = Test::WaitsAt(releases.copy(alloc)?);
+    let conditions = only(alloc, component, waits)?;
+    let update = Update::Release(releases.copy(alloc)?);
     let mut changes = occasion.begun(alloc)?;
-    add_live(task, app.block(block).next, &mut changes)?;
+    changes.push(Change { component, update })?;
     add_event_changes(app, task, events, true, &mut changes)?;
     occasion.accepted(conditions, changes, Queued::Last(task))
-}
-
-fn add_wakings(
-    alloc: Global,
-    app: &App,
-    occasion: Occasion,
-    task: TaskNo,
-    events: Mask,
-    blocks: &Seq<BlockNo>,
-    cases: &mut Seq<EffectCase>,
-) -> Result<(), Memory>
-    requires known { task.0 < length app.now.tasks }
-    requires own { (k : ℕ) → has_bit_of events.0 k ≡ true → has_bit_of (the_task app.now task.0).own.0 k ≡ true }
-    requires there { All (λ (b : BlockNo). b.0 < length app.now.blocks) blocks.now }
-    ensures { OnOk result (cases.new ≡ cases.old ++ map (λ b. case_at occasion (waking_case app.now task.0 events.0 b)) blocks.now) }
-{
-    for block in blocks.as_slice() {
-        cases.push(waking(alloc, app, occasion, task, events, *block)?)?;
-    }
-    Ok(())
 }
 
 /// Adds the cases of SetEvent.
@@ -140,11 +126,12 @@ pub fn add_event_settings(
         return cases.push(occasion.refused(alloc, Seq::new(alloc), Status::Access)?);
     }
     let events = mask.and(own);
-    let blocks = awaiting_blocks(alloc, app, task, events)?;
+    let releases = releases(alloc, app, task, events)?;
     let suspended = only(alloc, task_component(task), Test::Suspended)?;
     cases.push(occasion.refused(alloc, suspended, Status::State)?)?;
-    cases.push(not_awaiting(alloc, app, occasion, task, events, &blocks)?)?;
-    add_wakings(alloc, app, occasion, task, events, &blocks, cases)
+    cases.push(not_awaiting(alloc, app, occasion, task, events, &releases)?)?;
+    let released = waking(alloc, app, occasion, task, events, &releases)?;
+    cases.push(released)
 }
 
 /// The cases of ClearEvent.

@@ -40,8 +40,8 @@ pub fn add_event_changes(
     Ok(())
 }
 
-/// Adds the change by which a task becomes Live at a block, outside and with nothing held.
-pub fn add_live(task: TaskNo, block: BlockNo, changes: &mut Seq<Change>) -> Result<(), Memory>
+// adds the change by which a task becomes Live at a block, outside and with nothing held
+fn add_live(task: TaskNo, block: BlockNo, changes: &mut Seq<Change>) -> Result<(), Memory>
     ensures { OnOk result (changes.new ≡ changes.old ++ task_change task.0 (Live (live_val block 0 false [])) ∷ []) }
 {
     changes.push(Change {

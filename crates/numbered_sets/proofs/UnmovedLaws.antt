@@ -7,7 +7,7 @@ use Rattle.abstract_state.specs.declared.value.SourceVal.TheVariants as source_v
 use Rattle.abstract_state.specs.Components.{live_val}
 use Rattle.flow_model.specs.{declared.{test.Test.{Test}, change.Update.TheVariants.{Block}}, Tests.{passes, updated, of_task, of_stack, is_none_of, holds_nothing}}
 use Rattle.flow_model.specs.declared.test.Test.TheVariants as test
-use Rattle.flow_model.specs.Values.{is_suspended_value, further_of, has_room, is_full_value}
+use Rattle.flow_model.specs.Values.{is_suspended_value, further_of, has_room, is_full_value, waits_at}
 use Rattle.std.specs.Prelude.{not, ◌==◌}
 use Rattle.numbered_sets.specs.{Passing.{reads_no_block, IsJudged}, Pools.{IsNumberOf}, declared.passing.Judged.{Judged}}
 
@@ -43,6 +43,8 @@ unmoved (test.Full n) b v e = by_load (is_full_value n) b (λ x. refl) v
 unmoved (test.Room n) b v e = by_load (has_room n) b (λ x. refl) v
 unmoved test.NoFurther b v e = by_load (λ x. further_of x == 0) b (λ x. refl) v
 unmoved test.SomeFurther b v e = by_load (λ x. not (further_of x == 0)) b (λ x. refl) v
+unmoved (test.WaitsAt r) b v e = by_load (waits_at r) b (λ x. refl) v
+unmoved (test.WaitsNotAt r) b v e = by_load (λ x. not (waits_at r x)) b (λ x. refl) v
 
 -- a value that was judged tells it of one at another block
 pub judged_beside : (vs : List PartValue) (t : Test) (j : Judged) (n : ℕ) (w : PartValue) → IsJudged vs t j → reads_no_block t ≡ true

@@ -27,6 +27,7 @@ task_updated update.More b x e = refl
 task_updated (update.Again c) b x e = refl
 task_updated (update.Leave c) b x e = refl
 task_updated update.Inside b x e = refl
+task_updated (update.Release r) b x e = absurd (cc)
 
 routine_updated : (u : Update) (b : BlockNo) (x : Load) → changes_stack u ≡ true
     → updated u (OfSource (source_val.In (routine_val b x.held))) ≡ OfSource (source_val.In (routine_val (block_or (named_block u) b) (load_after u x).held))
@@ -38,6 +39,7 @@ routine_updated update.More b x e = absurd (cc)
 routine_updated (update.Again c) b x e = absurd (cc)
 routine_updated (update.Leave c) b x e = absurd (cc)
 routine_updated update.Inside b x e = absurd (cc)
+routine_updated (update.Release r) b x e = absurd (cc)
 
 bare_after : (u : Update) (x : Load) → changes_stack u ≡ true → IsRoutineLoad x → IsRoutineLoad (load_after u x)
 bare_after (update.Set w) x e h = absurd (cc)
@@ -48,6 +50,7 @@ bare_after update.More x e h = absurd (cc)
 bare_after (update.Again c) x e h = absurd (cc)
 bare_after (update.Leave c) x e h = absurd (cc)
 bare_after update.Inside x e h = absurd (cc)
+bare_after (update.Release r) x e h = absurd (cc)
 
 -- ---- what is Live in a slot
 

@@ -20,6 +20,7 @@ load_after update.More x = record x { further = one_further x.further }
 load_after (update.Again b) x = record { further = x.further - 1; inside = false; held = [] }
 load_after (update.Leave b) x = record x { inside = false }
 load_after update.Inside x = record x { inside = true }
+load_after (update.Release r) x = x
 
 -- The block at which an update leaves what is Live, if it names one.
 abbrev pub named_block : Update → Option BlockNo
@@ -31,6 +32,7 @@ named_block update.More = None
 named_block (update.Again b) = Some b
 named_block (update.Leave b) = Some b
 named_block update.Inside = None
+named_block (update.Release r) = None
 
 abbrev pub block_or : Option BlockNo → BlockNo → BlockNo
 block_or None c = c
@@ -40,6 +42,7 @@ block_or (Some b) c = b
 abbrev pub changes_task_load : Update → Bool
 changes_task_load (update.Set w) = false
 changes_task_load (update.Block b) = false
+changes_task_load (update.Release r) = false
 changes_task_load u = true
 
 abbrev pub changes_stack : Update → Bool

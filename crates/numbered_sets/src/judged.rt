@@ -34,12 +34,12 @@ impl JudgedTest {
     ghost use Rattle.numbered_sets.specs.Judging.{IsJudgedTest};
 
     /// No value was asked yet.
-    pub fn new(alloc: Global, domain: Domain, test: &Test) -> JudgedTest
-        ensures test { result.test ≡ test.now }
+    pub fn new(alloc: Global, domain: Domain, test: Test) -> JudgedTest
+        ensures test { result.test ≡ test }
         ensures judged { (values : List PartValue) → IsJudgedTest values result }
     {
         JudgedTest {
-            test: test.copy(),
+            test,
             judged: 0,
             passing: NumberedSet::new(alloc, domain),
             spent: 0,
@@ -159,6 +159,7 @@ impl JudgedTests {
         if let Some(place) = self.place_of(test) {
             return Ok(place);
         }
+        let test = test.copy(alloc)?;
         self.tests
             .push(JudgedTest::new(alloc, seen.domain(), test))?;
         Ok(self.tests.len() - 1)
@@ -202,6 +203,8 @@ fn are_same(one: &Test, other: &Test) -> bool
         (Test::Room(one), Test::Room(other)) => one == other,
         (Test::NoFurther, Test::NoFurther) => true,
         (Test::SomeFurther, Test::SomeFurther) => true,
+        (Test::WaitsAt(one), Test::WaitsAt(other)) => one.is(other),
+        (Test::WaitsNotAt(one), Test::WaitsNotAt(other)) => one.is(other),
         _ => false,
     }
 }

@@ -25,12 +25,12 @@ impl LoadsAfter {
     ghost use Rattle.numbered_sets.specs.{declared.loads.Load.{Load}, LoadUpdates.{IsNumberAfter, AreNumbersAfter}};
 
     /// Nothing is known yet.
-    pub fn new(alloc: Global, update: &Update) -> LoadsAfter
-        ensures update { result.update ≡ update.now }
+    pub fn new(alloc: Global, update: Update) -> LoadsAfter
+        ensures update { result.update ≡ update }
         ensures numbers { (loads : List Load) → AreNumbersAfter loads result.update result.numbers }
     {
         LoadsAfter {
-            update: update.copy(),
+            update,
             numbers: Column::new(alloc),
         }
     }
@@ -98,6 +98,7 @@ impl LoadUpdates {
         if let Some(place) = self.place_of(update) {
             return Ok(place);
         }
+        let update = update.copy(alloc)?;
         self.known.push(LoadsAfter::new(alloc, update))?;
         Ok(self.known.len() - 1)
     }

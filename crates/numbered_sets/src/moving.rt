@@ -118,7 +118,8 @@ impl SeenValues {
             | Update::More
             | Update::Again(_)
             | Update::Leave(_)
-            | Update::Inside => self.pass_loads(numbers, update, from, made),
+            | Update::Inside
+            | Update::Release(_) => self.pass_loads(numbers, update, from, made),
         }
     }
 

@@ -192,7 +192,12 @@ pub fn changes_load(domain: Domain, update: &Update) -> bool
     ensures { result ≡ changes_load domain update.now }
 {
     match domain {
-        Domain::Task { .. } => !matches!(update, Update::Set(_) | Update::Block(_)),
+        Domain::Task { .. } => {
+            !matches!(
+                update,
+                Update::Set(_) | Update::Block(_) | Update::Release(_)
+            )
+        }
         Domain::Source { .. } => matches!(update, Update::Take { .. } | Update::Give { .. }),
         Domain::Event | Domain::Alarm => false,
     }
@@ -205,7 +210,7 @@ fn named_block(update: &Update) -> Option<BlockNo>
     match update {
         Update::Block(block) | Update::Again(block) | Update::Leave(block) => Some(*block),
         Update::Take { block, .. } | Update::Give { block } => Some(*block),
-        Update::Set(_) | Update::More | Update::Inside => None,
+        Update::Set(_) | Update::More | Update::Inside | Update::Release(_) => None,
     }
 }
 

@@ -149,9 +149,9 @@ impl<'a> BeforeEffect<'a> {
         let count = self.app.counters.len() + self.app.isrs.len();
         // the sources come last
         let first = self.before.sets.len() - count;
-        let is_in = Test::IsNot(PartValue::OfSource(SourceVal::Out));
         let mut outs = Seq::of(Vec::with_capacity(alloc, count)?);
         for source in 0..count {
+            let is_in = Test::IsNot(PartValue::OfSource(SourceVal::Out));
             let may_be_in = may_pass_alone(&is_in, first + source, pool, self.before);
             outs.push(!may_be_in)?;
         }

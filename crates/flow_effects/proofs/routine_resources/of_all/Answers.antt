@@ -11,7 +11,7 @@ pub loop-task-preserved : goal.loop-task-preserved
 loop-task-preserved c =
     let t = task_no c.loop-task.task in
     grown (λ u. of_task (task_no u) c.args.test.now) [] c.loop-task.conditions c.push.new.self c.loop-task.task c.loop-task.invariant
-    (c.in_ok-push.ensures.ok ∙ ap (λ (x : Condition). c.loop-task.conditions ++ x ∷ []) (c.of_task.ensures ∙ ap (of_task t) c.copy.ensures))
+    (c.in_ok-push.ensures.ok ∙ ap (λ (x : Condition). c.loop-task.conditions ++ x ∷ []) (c.of_task.ensures ∙ ap (of_task t) c.in_ok-test.ensures))
 
 pub returns : goal.returns
 returns c =

@@ -1,4 +1,4 @@
-use Rattle.std.proofs.Common.{List, [], ◌∷◌, ◌≡◌, ◌-◌, length, sym, ap, subst, arith}
+use Rattle.std.proofs.Common.{List, [], ◌∷◌, ◌≡◌, ◌∙◌, ◌-◌, length, sym, ap, subst, arith}
 use Rattle.std.proofs.lemmas.List.{length-append}
 use Rattle.numbered_sets.specs.{declared.load_updates.LoadsAfter.{LoadsAfter}, LoadUpdates.{AreLoadUpdates, HasUpdateAt}}
 use Rattle.numbered_sets.proofs.LoadUpdateLaws.{updates_push, update_pushed}
@@ -15,4 +15,4 @@ pub returns-clause-place : goal.returns-clause-place
 returns-clause-place c =
     let known = c.args.self.now.known in
     let last : c.len.result - 1 ≡ length known = omega (arith, c.len.ensures, ap length c.in_ok-push.ensures.ok, length-append known (c.new.result ∷ [])) in
-    subst (λ (ks : List LoadsAfter). HasUpdateAt c.args.update.now ks (c.len.result - 1)) (sym c.in_ok-push.ensures.ok) (update_pushed c.args.update.now known (c.len.result - 1) c.new.result last c.new.ensures.update)
+    subst (λ (ks : List LoadsAfter). HasUpdateAt c.args.update.now ks (c.len.result - 1)) (sym c.in_ok-push.ensures.ok) (update_pushed c.args.update.now known (c.len.result - 1) c.new.result last (c.new.ensures.update ∙ c.in_ok-update.ensures))
