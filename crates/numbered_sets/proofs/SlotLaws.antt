@@ -31,6 +31,10 @@ of_task first count takable activation internal loads v t h = record {
     val_in_part (OfTask w) = w
     val_in_part other = Suspended
 
+pub tasks_slot : (first : BlockNo) (count activation : ℕ) (internal : Bool) (takable : Mask) (loads : List Load) (v : Val) (found : Option ℕ) → IfSome found (IsTaskSlotOf first.0 count loads v)
+    → IfSome found (IsSlotOf (domain.Task first count activation internal takable) loads (OfTask v))
+tasks_slot first count activation internal takable loads v found h = IfSome_then found h (λ t is. of_task first count takable activation internal loads v t is)
+
 pub of_source : (first : BlockNo) (count : ℕ) (takable : Mask) (loads : List Load) (v : SourceVal) (t : ℕ) → IsSourceSlotOf first.0 count loads v t → IsSlotOf (domain.Source first count takable) loads (OfSource v) t
 of_source first count takable loads v t h = record {
   known = h.known;

@@ -1,5 +1,5 @@
 -- Slots of a task's values: each is the only one of its value.
-use Rattle.std.proofs.Common.{◌≡◌, ◌≢◌, ℕ, zero, suc, ◌+◌, ◌-◌, ◌*◌, ◌/◌, ◌%◌, ◌^◌, ◌<◌, List, ◌++◌, length, get_or, refl, sym, ap, ap₂, subst, ◌∙◌, arith}
+use Rattle.std.proofs.Common.{◌≡◌, ◌≢◌, ℕ, zero, suc, ◌+◌, ◌-◌, ◌*◌, ◌/◌, ◌%◌, ◌^◌, ◌<◌, ◌≤◌, List, ◌++◌, length, get_or, refl, sym, ap, ap₂, subst, ◌∙◌, arith}
 use Rattle.std.specs.Prelude.{Option, Some, None, IfSome}
 use Rattle.std.proofs.Math.Nat.{div-lt_iff_lt-mul, div-add-mod, mul_comm}
 use Rattle.std.proofs.lemmas.{Nat.{div-mul-add, mod-mul-add}, List.{get_or_append_left}}
@@ -143,3 +143,15 @@ in_other_block first count (suc k) n block loads (Some t) same distinct few live
     let number : IsLoadNumber loads (load_of x) k = record { known = known; is = refl; only = λ j lt e. distinct.each j k lt known e } in
     let its : IsTaskSlotOf first count loads (Live x) t = slot_of_row first count (suc k) t block loads (Live x) at few small (in_live_row loads x k number) (live_row loads x k number) in
     subst (λ (r : ℕ). IsTaskSlotOf first count loads (at_block block (in_row loads r (block_no (first + n % count)))) t) same its
+
+-- ---- slots of tasks that wait
+
+pub waits_in_slot : (first count s : ℕ) (loads : List Load) (block : BlockNo) → (s ≡ 0 → ⊥) → s ≤ count → block.0 ≡ first + s - 1 → val_in first count loads s ≡ Waiting block
+waits_in_slot first count zero loads block some few at = absurd (some refl)
+waits_in_slot first count (suc n) loads block some few at =
+    let short : n < count = omega (arith, few) in
+    let place : n ≡ 0 * count + n = omega arith in
+    let row : n / count ≡ 0 = ap (λ (m : ℕ). m / count) place ∙ div-mul-add 0 count n short in
+    let rest : n % count ≡ n = ap (λ (m : ℕ). m % count) place ∙ mod-mul-add 0 count n short in
+    let here : first + n % count ≡ block.0 = omega (arith, at, rest) in
+    ap₂ (λ (r b : ℕ). in_row loads r (block_no b)) row here

@@ -20,8 +20,26 @@ pub struct Load {
 }
 
 impl Load {
-    ghost use Rattle.std.specs.Prelude.{◌≡◌};
-    ghost use Rattle.numbered_sets.specs.Slots.{load_of, routine_load, carrying};
+    ghost use Rattle.std.specs.{Prelude.{◌≡◌}, Bool.{OnTrue}};
+    ghost use Rattle.numbered_sets.specs.Slots.{no_load, load_of, routine_load, carrying};
+
+    /// That of a task that is outside and holds nothing.
+    pub fn none() -> Load
+        ensures { result ≡ no_load }
+    {
+        Load {
+            further: 0,
+            inside: false,
+            held: Held::new(),
+        }
+    }
+
+    /// Whether it is that.
+    pub fn is_none(&self) -> bool
+        ensures { OnTrue result (self.now ≡ no_load) }
+    {
+        self.further == 0 && !self.inside && self.held.is_empty()
+    }
 
     /// That of a Live task.
     pub fn of(live: &LiveVal) -> Load
@@ -171,6 +189,13 @@ impl Loads {
     /// None stands twice.
     pub fn are_distinct(&self)
         ensures { AreDistinct self.now }
+    {
+        let _seen = &self.seen;
+    }
+
+    /// There are no more than numbers of 32 bits.
+    pub fn are_few(&self)
+        ensures { length self.now ≤ 2 ^ 32 }
     {
         let _seen = &self.seen;
     }

@@ -8,14 +8,14 @@ use crate::seen_values::SeenValues;
 use crate::slot_values::{Standing, changes_load, offset_after, slot_place, standing_after};
 use crate::slots::Slots;
 use abstract_state::Domain;
-use flow_model::Update;
+use flow_model::{Releases, Update};
 use osek_values::{BlockNo, Memory};
 use std::alloc::Global;
 
 impl SeenValues {
     ghost use Rattle.std.specs.Prelude.{ℕ, ◌≡◌, ◌<◌, ◌≤◌, ◌+◌, length, IfOk, OnOk, IfSome, IsTrue};
     ghost use Rattle.abstract_state.specs.{declared.value.PartValue.{PartValue}, Domains.{IsWithin}};
-    ghost use Rattle.flow_model.specs.{declared.change.Update.TheVariants.{Block}, Tests.{updated}};
+    ghost use Rattle.flow_model.specs.{declared.change.Update.TheVariants.{Block, Release}, Tests.{updated}};
     ghost use Rattle.numbered_sets.specs.{Numbers.{Numbers, has_number}, Pools.{IsNumberOf, IsExtended}, Made.{AreMade}};
 
     /// The numbers of what an update makes of the values with the numbers of a set, if all of them were seen.
@@ -112,14 +112,14 @@ impl SeenValues {
     {
         match update {
             Update::Block(block) => self.pass_at(numbers, *block, from, made),
+            Update::Release(releases) => self.pass_released(numbers, releases, from, made),
             Update::Set(_)
             | Update::Take { .. }
             | Update::Give { .. }
             | Update::More
             | Update::Again(_)
             | Update::Leave(_)
-            | Update::Inside
-            | Update::Release(_) => self.pass_loads(numbers, update, from, made),
+            | Update::Inside => self.pass_loads(numbers, update, from, made),
         }
     }
 
@@ -180,6 +180,33 @@ impl SeenValues {
         self.loads.are_distinct();
         while number < count {
             let Some(after) = found_with(self.domain, &self.slots, standing, loads, number) else {
+                return Ok(number);
+            };
+            made.put(after)?;
+            number = numbers.next(number + 1, count);
+        }
+        Ok(number)
+    }
+
+    // the same for those who are released from waiting
+    fn pass_released(
+        &self,
+        numbers: &NumberedSet,
+        releases: &Releases,
+        from: usize,
+        made: &mut NumberedSet,
+    ) -> Result<usize, Memory>
+        requires { from ≤ length self.now.values }
+        ensures up { IfOk result (λ n. from ≤ n) }
+        ensures few { IfOk result (λ n. n ≤ length self.now.values) }
+        ensures has { IfOk result (λ n. n < length self.now.values → IsTrue (has_number numbers.now n)) }
+        ensures made { IfOk result (λ n. AreMade (updated (Release releases.now)) self.now.values numbers.now from made.old → AreMade (updated (Release releases.now)) self.now.values numbers.now n made.new) }
+    {
+        let count = self.len();
+        let load = self.load_of_none();
+        let mut number = numbers.next(from, count);
+        while number < count {
+            let Some(after) = self.found_released(number, releases, load) else {
                 return Ok(number);
             };
             made.put(after)?;

@@ -1,14 +1,14 @@
 //! The values of one domain that were seen, by number.
 ghost use Rattle.std.specs.Prelude.{◌≡◌};
 
-use crate::loads::Loads;
+use crate::loads::{Load, Loads};
 use crate::slot_values::{
     BlockColumn, block_column, block_in, changes_load, load_in, slot_after, slot_at_block,
-    slot_for, slot_of, slot_place, slot_width, value_at,
+    slot_for, slot_of, slot_place, slot_released, slot_width, value_at,
 };
 use crate::slots::Slots;
 use abstract_state::{Domain, PartValue};
-use flow_model::Update;
+use flow_model::{Releases, Update};
 use osek_values::{BlockNo, Memory};
 use std::alloc::{AllocError, Global};
 use std::marker::Model;
@@ -50,7 +50,7 @@ impl Clone for SeenValues {
 impl SeenValues {
     ghost use Rattle.std.specs.{Prelude.{◌≡◌, ◌<◌, false, length, IfOk, OnOk, OnErr, IfSome, IfNone}, List.{list_any}, Bool.{OnTrue}};
     ghost use Rattle.abstract_state.specs.{declared.value.PartValue.{PartValue}, Domains.{IsWithin, domain_size}, ValueOrder.{same_part}};
-    ghost use Rattle.flow_model.specs.{declared.change.Update.TheVariants.{Block}, Tests.{updated}, Values.{block_of_part}};
+    ghost use Rattle.flow_model.specs.{declared.change.Update.TheVariants.{Block, Release}, Tests.{updated}, Values.{block_of_part}};
     ghost use Rattle.numbered_sets.specs.{Pools.{no_values, value_seen, AreValues, IsNumberOf, IsBeside}, Slots.{IsBlockColumn}};
 
     /// No value yet.
@@ -177,6 +177,24 @@ impl SeenValues {
         self.loads.are_distinct();
         let row = column.row as usize + place.row as usize;
         self.slots.find_in(column.column, row)
+    }
+
+    /// The number of the load of a task that is outside and holds nothing, or how many loads there are. Nothing rests on it.
+    pub fn load_of_none(&self) -> usize {
+        match self.loads.find(&Load::none()) {
+            Some(load) => load,
+            None => self.loads.len(),
+        }
+    }
+
+    /// The number of what a task that waits is once it is released, if it was seen with this load.
+    pub fn found_released(&self, number: usize, releases: &Releases, load: usize) -> Option<usize>
+        requires { number < length self.now.values }
+        ensures { IfSome result (λ n. (v : PartValue) → IsNumberOf self.now.values v number → IsNumberOf self.now.values (updated (Release releases.now) v) n) }
+    {
+        let slot = self.slots.at(number);
+        let after = slot_released(self.domain, &self.loads, slot, releases, load)?;
+        self.slots.find(after)
     }
 
     /// The number of what a Live value would be at the block before its own, if it was seen.

@@ -1,16 +1,16 @@
 //! The slots of a domain's values, by arithmetic.
 ghost use Rattle.std.specs.Prelude.{ℕ, List, ◌≡◌, ◌≢◌, ◌<◌, ◌≤◌, ◌^◌, IfOk, IfSome, IfNone};
 ghost use Rattle.osek_standard.specs.Validity.{IsAmong};
-ghost use Rattle.flow_model.specs.{declared.change.Update.TheVariants.{Block}, Tests.{updated}, Values.{block_of_part}};
-ghost use Rattle.abstract_state.specs.declared.value.{Val.TheVariants.{Live}, SourceVal.TheVariants.{In}};
+ghost use Rattle.flow_model.specs.{declared.change.Update.TheVariants.{Block, Release}, Tests.{updated}, Values.{block_of_part}};
+ghost use Rattle.abstract_state.specs.declared.value.{Val.TheVariants.{Live, Waiting}, SourceVal.TheVariants.{In}};
 ghost use Rattle.numbered_sets.specs.declared.loads.Load.{Load};
-ghost use Rattle.numbered_sets.specs.Slots.{val_in, value_in, source_in, blocks_of, IsTaskSlot, IsSourceSlot, IsSlot, IsSlotOf, IsTaskSlotOf, IsSourceSlotOf, IsSlotInRow, AreMoreLoads, slot_width, IsBlockColumn, IsSlotPlace};
+ghost use Rattle.numbered_sets.specs.Slots.{no_load, carrying, val_in, value_in, source_in, blocks_of, IsTaskSlot, IsSourceSlot, IsSlot, IsSlotOf, IsTaskSlotOf, IsSourceSlotOf, IsSlotInRow, AreMoreLoads, slot_width, IsBlockColumn, IsSlotPlace};
 ghost use Rattle.numbered_sets.specs.LoadUpdates.{changes_load, named_block, offset_after, IsStandingAfter, IsLoadIn};
 
 use crate::column::NONE;
 use crate::loads::{Load, Loads};
 use abstract_state::{Domain, LiveVal, PartValue, RoutineVal, SourceVal, Val};
-use flow_model::Update;
+use flow_model::{Releases, Update};
 use osek_values::{BlockNo, Memory};
 
 /// Where the slots of a block stand: that of a waiting task in this column and row.
@@ -256,6 +256,60 @@ pub fn slot_after(domain: Domain, loads: &Loads, slot: usize, update: &Update) -
     let offset = offset_after(standing, place);
     let width = slot_width(domain) as usize;
     Some(1 + (load as usize + 1) * width + offset)
+}
+
+/// The slot of what a task that waits is once it is released, if this is the load of one that holds nothing.
+pub fn slot_released(
+    domain: Domain,
+    loads: &Loads,
+    slot: usize,
+    releases: &Releases,
+    load: usize,
+) -> Option<usize>
+    ensures { IfSome result (IsSlotOf domain loads.now (updated (Release releases.now) (value_in domain loads.now slot))) }
+{
+    match domain {
+        Domain::Task { first, count, .. } => {
+            let waiting = waiting_block(first, count, slot)?;
+            let next = releases.behind(waiting)?;
+            slot_with_nothing(first, count, loads, load, next)
+        }
+        Domain::Event | Domain::Alarm | Domain::Source { .. } => None,
+    }
+}
+
+// the block at which a task waits in a slot, if it does
+fn waiting_block(first: BlockNo, count: u16, slot: usize) -> Option<BlockNo>
+    ensures { IfSome result (λ b. (loads : List Load) → val_in first.0 count loads slot ≡ Waiting b) }
+{
+    if slot == 0 || slot > count as usize {
+        return None;
+    }
+    let block = first.0 as usize + slot - 1;
+    if block > 65535 {
+        return None;
+    }
+    Some(BlockNo(block as u16))
+}
+
+// the slot of a task that stands at a block, is outside and holds nothing, if this is the load of one
+fn slot_with_nothing(
+    first: BlockNo,
+    count: u16,
+    loads: &Loads,
+    load: usize,
+    block: BlockNo,
+) -> Option<usize>
+    ensures { IfSome result (IsTaskSlotOf first.0 count loads.now (Live (carrying block no_load))) }
+{
+    if load >= loads.len() {
+        return None;
+    }
+    if !loads.at(load).is_none() {
+        return None;
+    }
+    loads.are_few();
+    slot_in_row(first, count, load + 1, block)
 }
 
 /// Which of the blocks it is at which what is Live in a slot is left.

@@ -1,0 +1,16 @@
+use Rattle.std.proofs.Common.{◌-◌, ◌≤◌, ◌<◌, IsTrue}
+use Rattle.flow_model.specs.Tests.{updated}
+use Rattle.flow_model.specs.declared.change.Update.TheVariants as update
+use Rattle.numbered_sets.specs.{Numbers.{has_number}, Made.{AreMade}}
+use Rattle.numbered_sets.proofs.seen_values.SeenValues.pass_released.Given as goal
+
+abbrev pub decreases-loop-number : goal.decreases-loop-number
+decreases-loop-number l = l.count - l.number
+
+abbrev pub invariant-loop-number : goal.invariant-loop-number
+invariant-loop-number l = record {
+  up : l.from ≤ l.number;
+  few : l.number ≤ l.count;
+  has : l.number < l.count → IsTrue (has_number l.numbers l.number);
+  made : AreMade (updated (update.Release l.releases)) l.self.values l.numbers l.from l.initial.made → AreMade (updated (update.Release l.releases)) l.self.values l.numbers l.number l.made;
+}
