@@ -9,4 +9,5 @@ pub mod ResourceTests
 pub mod RoutineResourceCases
 pub mod ResourceCases
 pub mod WaitingCases
+pub mod WaitEffects
 pub mod ChainCases

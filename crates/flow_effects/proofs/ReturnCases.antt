@@ -1,5 +1,5 @@
 -- The cases of the end of a routine are its effects.
-use Rattle.std.proofs.Common.{◌≡◌, ◌≢◌, ℕ, ◌<◌, ◌&&◌, not, Bool, true, false, List, ◌∷◌, length, map, refl, sym, ap, subst, ◌∙◌, inl, inr, arith, Some, None, IfSome, get_or-set_same, get_or-set_other}
+use Rattle.std.proofs.Common.{◌≡◌, ◌≢◌, ℕ, ◌<◌, ◌&&◌, not, Bool, true, List, ◌∷◌, length, map, refl, sym, ap, subst, ◌∙◌, inl, inr, arith, Some, None, IfSome, get_or-set_same, get_or-set_other}
 use Rattle.std.proofs.Math.ListN.{length-set}
 use Rattle.std.proofs.lemmas.{Bool.{and_from, and_parts, cases_Bool, cases_eq, cases_lt, eq-eqb, false≢true, ne_eqb}, List.{get_or_past}}
 use Rattle.std.specs.{Prelude.{◌==◌}, declared.option.Option.{Option}}

@@ -5,5 +5,6 @@ pub mod TaskEnds
 pub mod Resources
 pub mod RoutineResources
 pub mod Waiting
+pub mod Alternatives
 pub mod Outs
 pub mod Returns

@@ -1,11 +1,12 @@
 -- The cases of WaitEvent (ISO 17356-3, event control).
-use Rattle.std.specs.Prelude.{ℕ, Bool, true, false, bit_and, List, [], ◌∷◌, map, Some, if◌then◌else◌}
+use Rattle.std.specs.Prelude.{◌≡◌, ℕ, ◌+◌, Bool, true, false, bit_and, List, [], ◌∷◌, map, Some, if◌then◌else◌}
 use Rattle.osek_values.specs.{Numbers.{event_no}, declared.{mask.Mask.{Mask}, numbers.{TaskNo.{TaskNo}, BlockNo.{BlockNo}}}}
 use Rattle.osek_values.specs.declared.status.Status.TheVariants as status
 use Rattle.osek_values.specs.Bits.{bits_of}
 use Rattle.osek_standard.specs.declared.app.App.{App}
 use Rattle.osek_standard.specs.declared.point.Point.TheVariants as point
 use Rattle.osek_standard.specs.Apps.{the_task, is_extended}
+use Rattle.abstract_state.specs.declared.value.ComponentNo.{ComponentNo}
 use Rattle.abstract_state.specs.declared.value.{Val.TheVariants.{Waiting}, PartValue.TheVariants.{OfTask, OfEvent}}
 use Rattle.abstract_state.specs.declared.value.Component.TheVariants as component
 use Rattle.abstract_state.specs.Components.{component_number}
@@ -22,6 +23,13 @@ use Rattle.flow_effects.specs.{Conditions.{of_task}, Moves.{refuses}, TaskEnds.{
 -- an event of the task is set, or isn't
 abbrev pub of_event : App → TaskNo → Bool → ℕ → Condition
 of_event app t set k = condition (component_number app (component.Event t (event_no k))) (test.Is (OfEvent set))
+
+-- The number of an event's component. Those of a task's own events stand side by side, so that it is told by the one before.
+abbrev pub event_component : App → TaskNo → ℕ → ℕ
+event_component app t k = component_number app (component.Event t (event_no k))
+
+abbrev pub IsBeforeEvent : App → TaskNo → ℕ → ComponentNo → Type 0
+IsBeforeEvent app t k x = x.0 + 1 ≡ event_component app t k
 
 -- the task's own events that it waits for
 abbrev pub awaited_events : App → TaskNo → Mask → List ℕ

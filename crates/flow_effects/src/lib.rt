@@ -2,6 +2,7 @@
 #![tactic(auto)]
 
 mod conditions;
+mod effects;
 mod instruction;
 mod moves;
 mod resources;
@@ -10,4 +11,5 @@ mod routine_resources;
 mod task_ends;
 mod waiting;
 
+pub use effects::{Alternatives, Effects, effects_at};
 pub use instruction::effect_cases;

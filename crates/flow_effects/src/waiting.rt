@@ -1,16 +1,17 @@
 //! WaitEvent.
-ghost use Rattle.std.specs.Prelude.{◌≡◌, ◌<◌, ◌++◌, IsTrue, IfOk, OnOk, false, length, map, bit_and};
+ghost use Rattle.std.specs.Prelude.{◌≡◌, ◌<◌, ◌++◌, ◌∷◌, [], IsTrue, IfOk, OnOk, IfSome, false, length, map, bit_and, if◌then◌else◌};
 ghost use Rattle.osek_values.specs.Bits.{has_bit};
 ghost use Rattle.osek_standard.specs.Apps.{the_task, is_extended};
 ghost use Rattle.flow_model.specs.Runners.{IsKnown};
-ghost use Rattle.flow_effects.specs.Waiting.{of_event, awaited_events, goes_on_by, waits, extended_cases, wait_cases};
+ghost use Rattle.flow_effects.specs.Waiting.{of_event, awaited_events, goes_on_by, waits, extended_cases, wait_cases, event_component, IsBeforeEvent};
 
 use crate::conditions::if_task;
+use crate::effects::{Alternatives, Effects};
 use crate::moves::refuses;
 use crate::task_ends::refused_holding;
 use abstract_state::{Component, ComponentNo, PartValue, Point, Val, component_number};
-use flow_model::{Asked, Change, Condition, EffectCase, Leaving, Runner, Test, Update};
-use osek_standard::App;
+use flow_model::{Asked, Change, Condition, EffectCase, Leaving, Runner, Test, Update, task_of};
+use osek_standard::{App, Call, Kind, MaskService};
 use osek_values::{BlockNo, EventNo, Mask, Memory, Seq, Status, TaskNo};
 use std::alloc::Global;
 
@@ -78,21 +79,61 @@ fn add_goes_on(
     Ok(())
 }
 
-/// Adds that none of the events is set.
-fn add_unset(
+/// Adds of each of the events that it is set, or that it isn't.
+fn add_events(
     app: &App,
     conditions: &mut Seq<Condition>,
     task: TaskNo,
     mask: Mask,
+    set: bool,
 ) -> Result<(), Memory>
     requires { task.0 < length app.now.tasks }
-    ensures { OnOk result (conditions.new ≡ conditions.old ++ map (of_event app.now task false) (awaited_events app.now task mask)) }
+    ensures { OnOk result (conditions.new ≡ conditions.old ++ map (of_event app.now task set) (awaited_events app.now task mask)) }
 {
     let events = awaited(app, task, mask);
+    let own = app.task(task).own;
+    let mut last = None;
     for bit in 0..64 {
-        if events.has(bit) {
-            conditions.push(of_event(app, task, false, bit))?;
+        if own.has(bit) {
+            let component = event_behind(app, task, bit, last);
+            let test = Test::Is(PartValue::OfEvent(set));
+            add_asked(conditions, events.has(bit), Condition { component, test })?;
+            last = Some(component);
         }
+    }
+    Ok(())
+}
+
+// the component of an event of the task, where the one before is that of the event before
+fn event_behind(app: &App, task: TaskNo, bit: u8, before: Option<ComponentNo>) -> ComponentNo
+    requires task { task.0 < length app.now.tasks }
+    requires bit { bit < 64 }
+    requires own { IsTrue (has_bit (the_task app.now task.0).own.0 bit) }
+    requires before { IfSome before (IsBeforeEvent app.now task bit) }
+    ensures { result.0 ≡ event_component app.now task bit }
+{
+    if let Some(before) = before {
+        if before.0 < u16::MAX {
+            return ComponentNo(before.0 + 1);
+        }
+    }
+    let event = Component::Event {
+        task,
+        bit: EventNo(bit),
+    };
+    component_number(app, event)
+}
+
+// adds a condition if it is asked
+fn add_asked(
+    conditions: &mut Seq<Condition>,
+    asked: bool,
+    condition: Condition,
+) -> Result<(), Memory>
+    ensures { OnOk result (conditions.new ≡ (if asked then conditions.old ++ condition ∷ [] else conditions.old)) }
+{
+    if asked {
+        conditions.push(condition)?;
     }
     Ok(())
 }
@@ -109,7 +150,7 @@ fn waits(
     ensures { IfOk result (λ case. case ≡ waits app.now task block (awaited_events app.now task mask)) }
 {
     let mut conditions = if_task(alloc, task, Test::HoldsNothing)?;
-    add_unset(app, &mut conditions, task, mask)?;
+    add_events(app, &mut conditions, task, mask, false)?;
     let mut changes = Seq::new(alloc);
     changes.push(Change {
         component: ComponentNo(task.0 as u16),
@@ -161,5 +202,71 @@ pub fn wait_cases(
             extended_cases(alloc, app, task, block, next, mask)
         }
         Runner::Routine { .. } => refuses(alloc, runner, next, Status::CallLevel),
+    }
+}
+
+/// A WaitEvent of an extended task.
+#[derive(Clone, Copy)]
+pub struct Wait {
+    pub task: TaskNo,
+    pub block: BlockNo,
+    pub next: BlockNo,
+    pub mask: Mask,
+}
+
+impl Wait {
+    ghost use Rattle.std.specs.Prelude.{◌≡◌, ◌<◌, length, IfOk, IfSome};
+    ghost use Rattle.osek_standard.specs.Points.{IsPoint};
+    ghost use Rattle.flow_effects.specs.Alternatives.{IsWaitAt, going_on, wait_effects};
+
+    /// The one at a point, if it stands there.
+    pub fn at(app: &App, point: Point) -> Option<Wait>
+        requires { IsPoint app.now point }
+        ensures { IfSome result (IsWaitAt app.now point) }
+    {
+        let Point::Task(block) = point else {
+            return None;
+        };
+        let task = task_of(app, block);
+        if app.task(task).own.is_empty() {
+            return None;
+        }
+        match app.block(block).kind {
+            Kind::Call(Call::Mask(MaskService::WaitEvent, mask)) => Some(Wait {
+                task,
+                block,
+                next: app.block(block).next,
+                mask,
+            }),
+            _ => None,
+        }
+    }
+
+    /// Its effects: the task goes on since some event is set, or waits, or is refused.
+    pub fn effects(self, alloc: Global, app: &App) -> Result<Effects, Memory>
+        requires { self.task.0 < length app.now.tasks }
+        ensures { IfOk result (λ effects. effects ≡ wait_effects app.now self) }
+    {
+        let mut cases = Seq::new(alloc);
+        cases.push(refused_holding(alloc, self.task, self.next)?)?;
+        cases.push(waits(alloc, app, self.task, self.block, self.mask)?)?;
+        let going_on = self.going_on(alloc, app)?;
+        Ok(Effects {
+            cases,
+            alternatives: Some(going_on),
+        })
+    }
+
+    // the cases in which the task goes on
+    fn going_on(self, alloc: Global, app: &App) -> Result<Alternatives, Memory>
+        requires { self.task.0 < length app.now.tasks }
+        ensures { IfOk result (λ x. x ≡ going_on app.now self) }
+    {
+        let free = if_task(alloc, self.task, Test::HoldsNothing)?;
+        let runner = Runner::Task(self.task);
+        let effect = runner.goes_on(alloc, self.next, free, Asked::No, Some(Status::Ok))?;
+        let mut conditions = Seq::new(alloc);
+        add_events(app, &mut conditions, self.task, self.mask, true)?;
+        Ok(Alternatives { effect, conditions })
     }
 }
