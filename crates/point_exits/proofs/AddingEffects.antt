@@ -14,7 +14,7 @@ use Rattle.point_exits.specs.{declared.group.ExitGroup.{ExitGroup}, Groups.{all_
 use Rattle.point_exits.proofs.GrowingPools.{exits_same, groups_known}
 
 -- an exit of some effects is one of more effects
-of_more : (app : App) (some more : List EffectCase) (entry : PlainEntry) (x : Exit) → ((effect : EffectCase) → Contains some effect → Contains more effect) → IsOfEffects app some entry x → IsOfEffects app more entry x
+pub of_more : (app : App) (some more : List EffectCase) (entry : PlainEntry) (x : Exit) → ((effect : EffectCase) → Contains some effect → Contains more effect) → IsOfEffects app some entry x → IsOfEffects app more entry x
 of_more app some more entry x onward h = record {
   decision = h.decision;
   decides = h.decides;
@@ -32,26 +32,26 @@ of_more app some more entry x onward h = record {
 }
 
 -- exits that were found are found among more
-still_for : (app : App) (effect : EffectCase) (entry : PlainEntry) (some more : List Exit) → ((x : Exit) → Contains some x → Contains more x) → HasExitsFor app effect entry some → HasExitsFor app effect entry more
+pub still_for : (app : App) (effect : EffectCase) (entry : PlainEntry) (some more : List Exit) → ((x : Exit) → Contains some x → Contains more x) → HasExitsFor app effect entry some → HasExitsFor app effect entry more
 still_for app effect entry some more onward h value d within passes decides =
     let x = h value d within passes decides in
     record { exit = x.exit; listed = onward x.exit x.listed; decision = x.decision; status = x.status; within = x.within; target = x.target }
 
 module _ (app : App) (entry : PlainEntry) where
-  more_effects : (effects : List EffectCase) (effect : EffectCase) (pool mid after : List Values) (a b c : List ExitGroup) → AddsEffects app entry effects pool a mid b → AddsEffects app entry (effect ∷ []) mid b after c →
-      AddsEffects app entry (effects ++ effect ∷ []) pool a after c
-  more_effects effects effect pool mid after a b c h k = record {
+  pub more_effects : (effects more : List EffectCase) (pool mid after : List Values) (a b c : List ExitGroup) → AddsEffects app entry effects pool a mid b → AddsEffects app entry more mid b after c →
+      AddsEffects app entry (effects ++ more) pool a after c
+  more_effects effects more pool mid after a b c h k = record {
     longer = longer_onward pool mid after h.longer k.longer;
     known = k.known;
     kept = λ x m. k.kept x (h.kept x m);
     each = λ x m. elim (k.each x m) [
       | inl old ↦ elim (h.each x old) [
         | inl first ↦ inl first
-        | inr of ↦ inr (of_more app effects (effects ++ effect ∷ []) entry x (λ e l. Contains-append_left effects (effect ∷ []) e l) of)
+        | inr of ↦ inr (of_more app effects (effects ++ more) entry x (λ e l. Contains-append_left effects more e l) of)
       ]
-      | inr of ↦ inr (of_more app (effect ∷ []) (effects ++ effect ∷ []) entry x (λ e l. Contains-append_right effects (effect ∷ []) e l) of)
+      | inr of ↦ inr (of_more app more (effects ++ more) entry x (λ e l. Contains-append_right effects more e l) of)
     ];
-    some = λ e m. elim (Contains-append_cases effects (effect ∷ []) e m) [
+    some = λ e m. elim (Contains-append_cases effects more e m) [
       | inl old ↦ still_for app e entry (all_exits mid b) (all_exits after c) k.kept (h.some e old)
       | inr new ↦ k.some e new
     ];
@@ -61,7 +61,7 @@ module _ (app : App) (entry : PlainEntry) where
       AddsEffects app entry (take i effects) pool a mid b → AddsEffects app entry (effect ∷ []) mid b after c → AddsEffects app entry (take (i + 1) effects) pool a after c
   effects_on effects i effect pool mid after a b c lt is h k =
       let last : take (i + 1) effects ≡ take i effects ++ effect ∷ [] = take_more effects i effect lt ∙ ap (λ (x : EffectCase). take i effects ++ x ∷ []) is in
-      subst (λ (xs : List EffectCase). AddsEffects app entry xs pool a after c) (sym last) (more_effects (take i effects) effect pool mid after a b c h k)
+      subst (λ (xs : List EffectCase). AddsEffects app entry xs pool a after c) (sym last) (more_effects (take i effects) (effect ∷ []) pool mid after a b c h k)
 
   module _ (size : length entry.sets ≡ component_count app) (effect : EffectCase) (pool after : List Values) (longer : IsLonger pool after) (before now : List ExitGroup) (known : AreKnownGroups pool before) where
     same : all_exits after before ≡ all_exits pool before

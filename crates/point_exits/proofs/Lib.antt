@@ -37,3 +37,8 @@ pub mod EffectDomains
 pub mod ProperRows
 pub mod StartEntry
 pub mod MadeSets
+pub mod AlternativeCases
+pub mod PassingEnds
+pub mod AlternativeEnds
+pub mod AlternativeGroups
+pub mod AlternativeExits

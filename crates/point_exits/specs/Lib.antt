@@ -13,3 +13,4 @@ pub mod AfterEffect
 pub mod Leaving
 pub mod Rows
 pub mod Starts
+pub mod Alternatives

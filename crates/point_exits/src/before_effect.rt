@@ -15,7 +15,7 @@ use crate::group::ExitGroup;
 use crate::levels::Levels;
 use crate::settled::Settling;
 use abstract_state::{PartValue, Point, SourceVal};
-use flow_effects::effect_cases;
+use flow_effects::effects_at;
 use flow_model::{EffectCase, Test};
 use numbered_sets::{NumberedEntry, Pool};
 use osek_standard::{App, Kind};
@@ -50,11 +50,16 @@ impl<'a> BeforeEffect<'a> {
         ensures added { OnOk result (AddsInstructions self.now.app.now point (plain_entry pool.old self.now.before.now) pool.old groups.old.items pool.new groups.new.items) }
     {
         let outs = self.sources_out(alloc, point, pool)?;
-        let effects = effect_cases(alloc, self.app, point, outs.as_slice())?;
-        for effect in effects.as_slice() {
+        let effects = effects_at(alloc, self.app, point, outs.as_slice())?;
+        for effect in effects.cases.as_slice() {
             self.push_effect(alloc, effect, pool, levels, groups)?;
         }
-        Ok(())
+        match &effects.alternatives {
+            None => Ok(()),
+            Some(alternatives) => {
+                self.push_alternatives(alloc, alternatives, pool, levels, groups)
+            }
+        }
     }
 
     /// Adds the exits of an effect, if it takes a value of each component.
@@ -138,14 +143,6 @@ impl<'a> BeforeEffect<'a> {
         if !matches!(self.app.block(block).kind, Kind::IsrEnd) {
             return Ok(Seq::new(alloc));
         }
-        self.each_source_out(alloc, pool)
-    }
-
-    // of each source, whether it has no other value than Out
-    fn each_source_out(&self, alloc: Global, pool: &Pool) -> Result<Seq<bool>, Memory>
-        requires { AreNumbersOf pool.now self.now.before.now }
-        ensures { IfOk result (λ outs. AreOutIn self.now.app.now outs (plain_entry pool.now self.now.before.now)) }
-    {
         let count = self.app.counters.len() + self.app.isrs.len();
         // the sources come last
         let first = self.before.sets.len() - count;

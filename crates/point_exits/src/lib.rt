@@ -2,6 +2,7 @@
 #![tactic(auto)]
 
 mod after_effect;
+mod alternatives;
 mod arrivals;
 mod bare_rule;
 mod before_effect;

@@ -79,8 +79,8 @@ impl<'a> Settling<'a> {
         Ok(())
     }
 
-    // a group by which a routine begins stays as it is
-    fn settle_group(&self, alloc: Global, group: &mut ExitGroup) -> Result<(), Memory>
+    /// Settles one group. One by which a routine begins stays as it is.
+    pub fn settle_group(&self, alloc: Global, group: &mut ExitGroup) -> Result<(), Memory>
         requires { IsKnownGroup self.now.pool.now group.old }
         ensures { OnOk result (IsSettledGroup self.now.app.now self.now.pool.now self.now.stay group.old group.new) }
     {

@@ -3,7 +3,7 @@ ghost use Rattle.std.specs.Prelude.{◌≡◌, ◌<◌, length, IfOk};
 ghost use Rattle.osek_standard.specs.{Points.{point_of, point_of as point_of_state}, Kernel.{start as start_of}, Well.{Well}};
 ghost use Rattle.numbered_sets.specs.PlainTables.{row_at};
 ghost use Rattle.point_exits.specs.{Starts.{entry_of, IsStartRow, HasPart, single as single_set, entry_of as entry_of_state}, Rows.{IsProperRow}};
-ghost use Rattle.abstract_state.specs.Components.{value_in as value_of_activity, source_value as value_of_source, is_armed as is_armed_state, part_of};
+ghost use Rattle.abstract_state.specs.Components.{value_in as value_of_activity, source_value as value_of_source, part_of};
 ghost use Rattle.abstract_state.specs.Regular.{IsRegular};
 
 use abstract_state::{
@@ -72,7 +72,10 @@ fn part(state: &State, component: Component) -> PartValue
     match component {
         Component::Task(task) => PartValue::OfTask(value_in(&state.task(task).activity)),
         Component::Event { task, bit } => { PartValue::OfEvent(state.task(task).events.has(bit.0)) }
-        Component::Alarm(alarm) => PartValue::OfAlarm(is_armed(state.alarm(alarm))),
+        Component::Alarm(alarm) => PartValue::OfAlarm(matches!(
+            state.alarm(alarm),
+            AlarmState::Armed { .. }
+        )),
         Component::Source(source) => PartValue::OfSource(source_value(
             state.sources.at(source.index()),
         )),
@@ -103,14 +106,5 @@ fn source_value(source: &Source) -> SourceVal
             block: standing.at.block,
             held: standing.held.copy(),
         }),
-    }
-}
-
-fn is_armed(alarm: AlarmState) -> bool
-    ensures { result ≡ is_armed_state alarm }
-{
-    match alarm {
-        AlarmState::Idle => false,
-        AlarmState::Armed { .. } => true,
     }
 }

@@ -1,20 +1,21 @@
-use Rattle.std.proofs.Common.{◌≡◌, ◌∷◌, [], Bool, List, ◌∙◌, sym, subst}
-use Rattle.std.specs.Prelude.{Contains}
-use Rattle.std.proofs.lemmas.List.{take_all}
+use Rattle.std.proofs.Common.{◌≡◌, ◌∷◌, [], Bool, List, ◌∙◌, sym, ap, subst}
+use Rattle.std.specs.{Prelude.{Contains, IfSome}, declared.option.Option.{Option}}
+use Rattle.std.proofs.lemmas.{List.{take_all}, Result.{on_ok_weaker}}
 use Rattle.abstract_state.specs.{declared.table.PlainEntry.{PlainEntry}, Domains.{domains, domains_of}}
 use Rattle.flow_model.specs.declared.case.EffectCase.{EffectCase}
 use Rattle.numbered_sets.specs.Views.{plain_entry}
-use Rattle.numbered_sets.proofs.ViewLaws.{same_view, same_domains}
-use Rattle.flow_effects.specs.Outs.{AreOutIn}
+use Rattle.numbered_sets.proofs.{ViewLaws.{same_view, same_domains, still_known}, NumberingLaws.{longer_onward}}
+use Rattle.flow_effects.specs.{declared.effects.Alternatives.{Alternatives}, Outs.{AreOutIn}, Alternatives.{alternative_cases, with_alternatives, all_cases, AreApart}}
 use Rattle.flow_exits.specs.Leaving.{effect_rule}
-use Rattle.point_exits.specs.{Applying.{KeepsDomains}, Leaving.{AddsEffects}}
-use Rattle.point_exits.proofs.{AddingEffects.{effects_on}, EffectDomains.{effect_keeps_domains}}
+use Rattle.point_exits.specs.{Applying.{KeepsDomains}, Leaving.{AddsEffects}, Alternatives.{HasOwnValues}}
+use Rattle.point_exits.proofs.{AddingEffects.{more_effects, effects_on}, EffectDomains.{effect_keeps_domains}, AlternativeCases.{case_listed, alternative_listed, own_values}}
 use Rattle.point_exits.proofs.before_effect.BeforeEffect.push_instructions.Goals as goal
 
 pub push_effect-requires-clause-stays : goal.push_effect-requires-clause-stays
 push_effect-requires-clause-stays c =
     let x = c.effect-item.result in
-    c.in_ok-effects.ensures.stays x (subst (λ (xs : List EffectCase). Contains xs x) c.as_slice-effect-items.ensures (c.loop-effect.effect-index, c.loop-effect-test.true, sym c.effect-item.is))
+    let listed = subst (λ (xs : List EffectCase). Contains xs x) c.as_slice-effect-items.ensures (c.loop-effect.effect-index, c.loop-effect-test.true, sym c.effect-item.is) in
+    c.in_ok-effects.ensures.stays x (case_listed c.in_ok-effects.effects.cases c.in_ok-effects.effects.alternatives x listed)
 
 pub push_effect-requires-clause-kept : goal.push_effect-requires-clause-kept
 push_effect-requires-clause-kept c =
@@ -24,7 +25,8 @@ push_effect-requires-clause-kept c =
     let alike : domains (plain_entry pool entry) ≡ domains_of c.args.self.now.app.now = same_domains pool 0 entry.sets ∙ c.args.self.now.domains in
     let listed = subst (λ (xs : List EffectCase). Contains xs x) c.as_slice-effect-items.ensures (c.loop-effect.effect-index, c.loop-effect-test.true, sym c.effect-item.is) in
     subst (KeepsDomains (effect_rule x)) (sym (same_view pool c.loop-effect.pool entry c.loop-effect.invariant.added.longer c.requires.numbers))
-    (effect_keeps_domains c.args.self.now.app.now c.args.point (plain_entry pool entry) c.in_ok-effects.effects x alike listed (c.in_ok-effects.ensures.exact (plain_entry pool entry) alike c.requires.allowed))
+    (effect_keeps_domains c.args.self.now.app.now c.args.point (plain_entry pool entry) (all_cases c.in_ok-effects.effects) x alike
+    (case_listed c.in_ok-effects.effects.cases c.in_ok-effects.effects.alternatives x listed) (c.in_ok-effects.ensures.exact (plain_entry pool entry) alike c.requires.allowed))
 
 pub loop-effect-preserved : goal.loop-effect-preserved
 loop-effect-preserved c =
@@ -41,17 +43,82 @@ loop-effect-preserved c =
       levels = c.in_ok-push_effect.ensures.levels;
     }
 
-pub returns-clause-added : goal.returns-clause-added
-returns-clause-added c =
+pub push_alternatives-requires-clause-numbers : goal.push_alternatives-requires-clause-numbers
+push_alternatives-requires-clause-numbers c = still_known c.args.pool.now c.loop-effect.pool c.args.self.now.before.now c.loop-effect.invariant.added.longer c.requires.numbers
+
+pub push_alternatives-requires-clause-own : goal.push_alternatives-requires-clause-own
+push_alternatives-requires-clause-own c =
+    let app = c.args.self.now.app.now in
+    let pool = c.args.pool.now in
+    let entry = c.args.self.now.before.now in
+    let alike : domains (plain_entry pool entry) ≡ domains_of app = same_domains pool 0 entry.sets ∙ c.args.self.now.domains in
+    subst HasOwnValues (sym (same_view pool c.loop-effect.pool entry c.loop-effect.invariant.added.longer c.requires.numbers))
+    (own_values app c.args.point (plain_entry pool entry) alike c.requires.allowed)
+
+pub push_alternatives-requires-clause-apart : goal.push_alternatives-requires-clause-apart
+push_alternatives-requires-clause-apart c = subst (λ (o : Option Alternatives). IfSome o (AreApart c.args.self.now.app.now)) c.in-Some.is c.in_ok-effects.ensures.apart
+
+pub push_alternatives-requires-clause-kept : goal.push_alternatives-requires-clause-kept
+push_alternatives-requires-clause-kept c = λ x m.
+    let app = c.args.self.now.app.now in
+    let pool = c.args.pool.now in
+    let entry = c.args.self.now.before.now in
+    let effects = c.in_ok-effects.effects in
+    let alike : domains (plain_entry pool entry) ≡ domains_of app = same_domains pool 0 entry.sets ∙ c.args.self.now.domains in
+    let listed = alternative_listed effects.cases effects.alternatives c.in-Some.alternatives x c.in-Some.is m in
+    subst (KeepsDomains (effect_rule x)) (sym (same_view pool c.loop-effect.pool entry c.loop-effect.invariant.added.longer c.requires.numbers))
+    (effect_keeps_domains app c.args.point (plain_entry pool entry) (all_cases effects) x alike listed (c.in_ok-effects.ensures.exact (plain_entry pool entry) alike c.requires.allowed))
+
+pub push_alternatives-requires-clause-levels : goal.push_alternatives-requires-clause-levels
+push_alternatives-requires-clause-levels c = c.loop-effect.invariant.levels
+
+pub push_alternatives-requires-clause-known : goal.push_alternatives-requires-clause-known
+push_alternatives-requires-clause-known c = c.loop-effect.invariant.added.known
+
+pub returns-in-None-clause-added : goal.returns-in-None-clause-added
+returns-in-None-clause-added c =
     let app = c.args.self.now.app.now in
     let pool = c.args.pool.now in
     let plain = plain_entry pool c.args.self.now.before.now in
+    let effects = c.in_ok-effects.effects in
     let alike : domains plain ≡ domains_of app = same_domains pool 0 c.args.self.now.before.now.sets ∙ c.args.self.now.domains in
-    let whole = take_all c.loop-effect.effect-index c.as_slice-effect-items.result.now c.loop-effect-test.false ∙ c.as_slice-effect-items.ensures in
+    let whole = take_all c.loop-effect.effect-index c.as_slice-effect-items.result.now c.loop-effect-test.false ∙ c.as_slice-effect-items.ensures ∙ sym (ap (with_alternatives effects.cases) c.in-None.is) in
     record {
-      effects = c.in_ok-effects.effects;
+      effects = all_cases effects;
       stays = c.in_ok-effects.ensures.stays;
       covering = c.in_ok-effects.ensures.covering plain alike (subst (λ (xs : List Bool). AreOutIn app xs plain) (sym c.as_slice.ensures) c.in_ok-outs.ensures);
       exact = c.in_ok-effects.ensures.exact plain alike;
       added = subst (λ (xs : List EffectCase). AddsEffects app plain xs pool c.args.groups.now.items c.loop-effect.pool c.loop-effect.groups.items) whole c.loop-effect.invariant.added;
     }
+
+pub returns-clause-added : goal.returns-clause-added
+returns-clause-added c =
+    let app = c.args.self.now.app.now in
+    let pool = c.args.pool.now in
+    let mid = c.loop-effect.pool in
+    let after = c.push_alternatives.new.pool in
+    let entry = c.args.self.now.before.now in
+    let plain = plain_entry pool entry in
+    let effects = c.in_ok-effects.effects in
+    let first = c.args.groups.now.items in
+    let then = c.loop-effect.groups.items in
+    let last = c.push_alternatives.new.groups.items in
+    let alike : domains plain ≡ domains_of app = same_domains pool 0 entry.sets ∙ c.args.self.now.domains in
+    let others = alternative_cases c.in-Some.alternatives in
+    let some : AddsEffects app plain effects.cases pool first mid then =
+    subst (λ (xs : List EffectCase). AddsEffects app plain xs pool first mid then)
+    (take_all c.loop-effect.effect-index c.as_slice-effect-items.result.now c.loop-effect-test.false ∙ c.as_slice-effect-items.ensures) c.loop-effect.invariant.added in
+    on_ok_weaker c.push_alternatives.result
+    (λ added. record {
+      effects = all_cases effects;
+      stays = c.in_ok-effects.ensures.stays;
+      covering = c.in_ok-effects.ensures.covering plain alike (subst (λ (xs : List Bool). AreOutIn app xs plain) (sym c.as_slice.ensures) c.in_ok-outs.ensures);
+      exact = c.in_ok-effects.ensures.exact plain alike;
+      added =
+          subst (λ (xs : List EffectCase). AddsEffects app plain xs pool first after last) (sym (ap (with_alternatives effects.cases) c.in-Some.is))
+          (more_effects app plain effects.cases others pool mid after first then last some
+          (subst (λ (e : PlainEntry). AddsEffects app e others mid then after last) (same_view pool mid entry c.loop-effect.invariant.added.longer c.requires.numbers) added));
+    }) c.push_alternatives.ensures.added
+
+pub returns-clause-pool : goal.returns-clause-pool
+returns-clause-pool c = longer_onward c.args.pool.now c.loop-effect.pool c.push_alternatives.new.pool c.loop-effect.invariant.added.longer c.push_alternatives.ensures.pool

@@ -2,7 +2,7 @@
 use Rattle.std.proofs.Common.{◌≡◌, length}
 use Rattle.flow_effects.specs.Outs.{AreOutIn}
 use Rattle.numbered_sets.specs.Views.{plain_entry}
-use Rattle.point_exits.proofs.before_effect.BeforeEffect.each_source_out.Given as goal
+use Rattle.point_exits.proofs.before_effect.BeforeEffect.sources_out.Given as goal
 
 abbrev pub invariant-loop-source : goal.invariant-loop-source
 invariant-loop-source l = record {

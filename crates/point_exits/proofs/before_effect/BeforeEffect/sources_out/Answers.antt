@@ -9,7 +9,7 @@ use Rattle.numbered_sets.specs.Views.{plain_entry}
 use Rattle.flow_effects.specs.Outs.{AreOutIn}
 use Rattle.flow_exits.proofs.SourceNumbers.{number_behind}
 use Rattle.point_exits.proofs.{EntryCounts.{numbers_counted, pool_counted}, OutLaws.{none_out, out_if, out_alone, out_more, sources_last}}
-use Rattle.point_exits.proofs.before_effect.BeforeEffect.each_source_out.Goals as goal
+use Rattle.point_exits.proofs.before_effect.BeforeEffect.sources_out.Goals as goal
 
 pub overflow_sub-first : goal.overflow_sub-first
 overflow_sub-first c =
@@ -26,7 +26,7 @@ pub may_pass_alone-may_be_in-requires-clause-values : goal.may_pass_alone-may_be
 may_pass_alone-may_be_in-requires-clause-values c =
     let app = c.args.self.now.app.now in
     let entry = c.args.self.now.before.now in
-    let pool = pool_counted app c.args.pool.now entry c.args.self.now.domains c.requires.domains in
+    let pool = pool_counted app c.args.pool.now entry c.args.self.now.domains c.requires.numbers.domains in
     let sets = numbers_counted app entry c.args.self.now.domains in
     omega (arith, c.len.ensures, c.len-2.ensures, c.len-3.ensures, c.loop-source-test.true, pool, sets, sources_last app)
 
