@@ -16,3 +16,4 @@ pub mod NumberedCells
 pub mod CellRows
 pub mod ExitJoins
 pub mod EvaluatedExits
+pub mod JoinedEnds

@@ -1,8 +1,8 @@
 -- The rows of exits, by number, and their joins to cells.
-use Rattle.std.specs.{Prelude.{List, map, Contains}, List.{flat_map}}
+use Rattle.std.specs.{Prelude.{◌≡◌, ◌≢◌, ℕ, List, map, IsTrue, Contains}, List.{flat_map}}
 use Rattle.osek_standard.specs.declared.{app.App.{App}, point.Point.{Point}}
 use Rattle.abstract_state.specs.declared.table.TableRow.{TableRow}
-use Rattle.numbered_sets.specs.{declared.numbered_entry.NumberedEntry.{NumberedEntry}, Pools.{Values}, Views.{plain_entry}, PlainTables.{row_at}}
+use Rattle.numbered_sets.specs.{declared.numbered_entry.NumberedEntry.{NumberedEntry}, Numbers.{has_number}, NumberedEntries.{numbers_at}, Pools.{Values}, Views.{plain_entry}, PlainTables.{row_at}}
 use Rattle.point_exits.specs.declared.group.{NumberEnd.{NumberEnd}, Ends.{Ends}, ExitGroup.{ExitGroup}}
 use Rattle.point_exits.specs.declared.group.Ends.TheVariants as ends
 use Rattle.point_exits.specs.Groups.{with_end}
@@ -36,3 +36,19 @@ AreProperRows app rows = (row : TableRow) → Contains rows row → IsProperRow 
 pub record AreRowsJoined (app : App) (pool : List Values) (cells : List (Cell NumberedEntry)) (rows : List TableRow) (now : List (Cell NumberedEntry)) : Type 0 where
   pub known : AreCellsOf pool now
   pub joined : AreJoined app (plain_cells pool cells) rows (plain_cells pool now)
+
+-- ---- ends that together have what the entry has
+
+-- each number of the end is one of the entry's
+abbrev pub IsPart : NumberedEntry → NumberEnd → Type 0
+IsPart entry x = (n : ℕ) → IsTrue (has_number x.numbers n) → IsTrue (has_number (numbers_at entry x.component) n)
+
+-- all are at one point, and two have numbers of different components
+pub record AreTogether (entry : NumberedEntry) (xs : List NumberEnd) (p : Point) : Type 0 where
+  pub first : NumberEnd
+  pub second : NumberEnd
+  pub first_listed : Contains xs first
+  pub second_listed : Contains xs second
+  pub apart : first.component ≢ second.component
+  pub target : (x : NumberEnd) → Contains xs x → x.target ≡ p
+  pub part : (x : NumberEnd) → Contains xs x → IsPart entry x

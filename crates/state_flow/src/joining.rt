@@ -1,12 +1,12 @@
 //! The exits of a point, joined to cells.
-ghost use Rattle.std.specs.Prelude.{◌≡◌, [], ◌∷◌, Contains, OnOk};
+ghost use Rattle.std.specs.{Prelude.{◌≡◌, [], ◌∷◌, Contains, OnOk, IfSome}, Bool.{OnTrue}};
 ghost use Rattle.numbered_sets.specs.Views.{AreNumbersOf};
 ghost use Rattle.point_exits.specs.{declared.group.NumberEnd.{NumberEnd}, Groups.{IsKnownEnd, IsKnownGroup, AreKnownGroups}, Rows.{IsProperRow}};
-ghost use Rattle.state_flow.specs.{Numbering.{AreNumberedCells}, ExitRows.{rows_at, end_row, rows_with, rows_by, all_rows, AreProperRows, AreRowsJoined}};
+ghost use Rattle.state_flow.specs.{Numbering.{AreNumberedCells}, ExitRows.{rows_at, end_row, rows_with, rows_by, all_rows, AreProperRows, AreRowsJoined, IsPart, AreTogether}};
 
 use crate::cells::Cell;
 use crate::numbered_cells::put_in;
-use abstract_state::Point;
+use abstract_state::{Point, masks_are_few};
 use numbered_sets::{NumberedEntry, Pool};
 use osek_standard::App;
 use osek_values::Memory;
@@ -88,6 +88,10 @@ fn join_with(
     requires cells { AreNumberedCells app.now pool.now cells.old.items }
     ensures { OnOk result (AreRowsJoined app.now pool.now cells.old.items (rows_with pool.now entry ends.now) cells.new.items) }
 {
+    if let Some(target) = joined_target(ends, &entry, pool) {
+        masks_are_few(app);
+        return put_in(alloc, app, pool, cells, target, &entry);
+    }
     let mut held = entry;
     for end in ends {
         join_end(alloc, app, end, &mut held, pool, cells)?;
@@ -116,4 +120,41 @@ fn join_end(
     put_in(alloc, app, pool, cells, end.target, entry)?;
     entry.sets.put(end.component, &own)?;
     Ok(())
+}
+
+// The point where all ends lead, if they have numbers of different components: each has all numbers of the others, so that their
+// join is the entry.
+fn joined_target(ends: &[NumberEnd], entry: &NumberedEntry, pool: &Pool) -> Option<Point>
+    requires known { AreNumbersOf pool.now entry.now }
+    requires ends { (x : NumberEnd) → Contains ends.now x → IsKnownEnd pool.now entry.now x }
+    ensures { IfSome result (AreTogether entry.now ends.now) }
+{
+    if ends.len() < 2 || ends[0].component == ends[1].component {
+        return None;
+    }
+    let target = ends[0].target;
+    for end in ends {
+        let leads_there = end.target == target;
+        if !leads_there || !is_part(end, entry, pool) {
+            return None;
+        }
+    }
+    Some(target)
+}
+
+// whether each number of an end is one of the entry's
+fn is_part(end: &NumberEnd, entry: &NumberedEntry, pool: &Pool) -> bool
+    requires known { AreNumbersOf pool.now entry.now }
+    requires end { IsKnownEnd pool.now entry.now end.now }
+    ensures { OnTrue result (IsPart entry.now end.now) }
+{
+    let count = pool.len(end.component);
+    let mut number = end.numbers.next(0, count);
+    while number < count {
+        if !entry.sets.has(end.component, number) {
+            return false;
+        }
+        number = end.numbers.next(number + 1, count);
+    }
+    true
 }
