@@ -8,7 +8,7 @@ use Rattle.abstract_state.specs.{declared.table.{TableRow.{TableRow}, PlainTable
 use Rattle.abstract_state.proofs.EqualityLaws.{written_entry}
 use Rattle.numbered_sets.specs.{declared.table.NumberedRow.{NumberedRow}, Pools.{Values}, PlainTables.{plain_row, AreRowsFor}}
 use Rattle.numbered_sets.proofs.{RowsByNumber.{as_many}, WrittenRows.{rows_ascend}}
-use Rattle.global_cfg.specs.PointOrder.{AreInOrder}
+use Rattle.table_rows.specs.Order.{AscendBy}
 
 abbrev pub row_point : TableRow → Point
 row_point row = row.point
@@ -17,9 +17,9 @@ module _ (app : App) (table : PlainTable) (written : IsWritten app table) where
   abbrev points : List Point
   points = map row_point table.rows
 
-  pub in_order : AreInOrder (map row_point table.rows)
+  pub in_order : AscendBy point_number (map row_point table.rows)
   in_order = record {
-    pairs = λ i j d lt below.
+    before = λ i j d lt below.
         let none : TableRow = record { point = d; entry = record { sets = [] } } in
         let size = length-map table.rows row_point in
         let low = ap (λ (p : Point). point_number p) (get_or-map row_point table.rows i none) in

@@ -1,11 +1,12 @@
 -- What is found by halving in a list in its order: a point, or an edge.
 use Rattle.std.proofs.Common.{◌≡◌, ℕ, ◌<◌, ◌≤◌, Bool, true, false, ◌||◌, ◌&&◌, eqb, ltb, List, length, get_or, sym, ap, subst, ◌∙◌, ◌⊎◌, inl, inr, arith}
 use Rattle.std.specs.List.{list_any, Sorted.{IsPartitionedBy, IsPartitionPoint}}
-use Rattle.std.proofs.lemmas.{Bool.{and_from, and_parts, cases_Bool, cases_order, cases_eq, eq-eqb, eqb-true, lt-ltb, ltb-false, ltb-true, or_cases, or_left, or_right, true≢false}, List.Folds.{Any-from_list_any, list_any_at}}
+use Rattle.std.proofs.lemmas.{Bool.{and_from, and_parts, cases_Bool, cases_order, cases_eq, eq-eqb, eqb-true, lt-ltb, ltb-true, or_cases, or_left, or_right, true≢false}, List.Folds.{Any-from_list_any, list_any_at}}
 use Rattle.osek_standard.specs.{declared.point.Point.{Point}, Points.{point_number}}
 use Rattle.abstract_state.specs.{declared.edge.FlowEdge.{FlowEdge}, Tables.{same_point}}
 use Rattle.abstract_state.proofs.EqualityLaws.{point_right}
-use Rattle.global_cfg.specs.{Edges.{IsBefore, AreAscending}, PointOrder.{AreInOrder}}
+use Rattle.table_rows.{specs.Order.{AscendBy, IsPlaceBy, IsGapBy}, proofs.OrderLaws.{only_place, none_there}}
+use Rattle.global_cfg.specs.Edges.{IsBefore, AreAscending}
 use Rattle.flow_watch.specs.Watches.{leads_to}
 
 module _ {X : Type 0} (is : X → Bool) (xs : List X) (place : ℕ) where
@@ -34,26 +35,15 @@ module _ {X : Type 0} (is : X → Bool) (xs : List X) (place : ℕ) where
 
 -- ---- points
 
-abbrev pub is_lower : ℕ → Point → Bool
-is_lower n p = ltb (point_number p) n
+module _ (points : List Point) (order : AscendBy point_number points) where
+  -- the point that stands where its number does is it, or none is
+  pub point_there : (p : Point) (place : ℕ) → IsPlaceBy point_number points (point_number p) place → (x : Point) → ((d : Point) → x ≡ get_or points place d) → list_any (same_point p) points ≡ same_point p x
+  point_there p place at x stands =
+      at_place (same_point p) points place (λ k y within is same. only_place point_number points order (point_number p) place at k y within is (ap point_number (sym (point_right p y same)))) x at.known stands
 
-module _ (points : List Point) (order : AreInOrder points) where
-  pub points_parted : (n : ℕ) → IsPartitionedBy (is_lower n) points
-  points_parted n i j d le within below = elim (cases_eq i j) [
-    | inl same ↦ ap (λ (k : ℕ). is_lower n (get_or points k d)) same ∙ below
-    | inr other ↦ lt-ltb (point_number (get_or points i d)) n (omega (arith, order.pairs i j d (omega (arith, le, other)) within, ltb-true (point_number (get_or points j d)) n below))
-  ]
-
-  pub only_point : (p : Point) (place : ℕ) → IsPartitionPoint (λ x. is_lower (point_number p) x ≡ true) (λ x. is_lower (point_number p) x ≡ false) points place
-      → (k : ℕ) (x : Point) → k < length points → get_or points k x ≡ x → same_point p x ≡ true → k ≡ place
-  only_point p place parts k x within at same =
-      let number : point_number (get_or points k x) ≡ point_number p = ap point_number (at ∙ sym (point_right p x same)) in
-      elim (cases_order k place) [
-        | inl here ↦ here
-        | inr (inl low) ↦ absurd (omega (arith, number, ltb-true (point_number (get_or points k x)) (point_number p) (parts.0 k x (omega arith) low)))
-        | inr (inr high) ↦
-            absurd (omega (arith, number, order.pairs place k x high within, ltb-false (point_number (get_or points place x)) (point_number p) (parts.1 place x (omega arith) (omega (arith, high, within)))))
-      ]
+  pub no_point_there : (p : Point) (gap : ℕ) → IsGapBy point_number points (point_number p) gap → list_any (same_point p) points ≡ false
+  no_point_there p gap at =
+      past_end (same_point p) points (length points) (λ k x within is same. absurd (none_there point_number points (point_number p) gap at x (k, within, is) (ap point_number (sym (point_right p x same))))) (omega arith)
 
 -- ---- edges
 

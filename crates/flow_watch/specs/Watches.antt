@@ -1,9 +1,10 @@
 -- A watch: what it keeps, and what seeing a point makes of it.
 use Rattle.std.specs.{Prelude.{◌≡◌, ◌↔◌, ℕ, ◌+◌, Bool, true, false, ◌||◌, ◌&&◌, List, [], ◌∷◌, IsTrue, Contains, Some, None, refl}, List.{list_any}, Coded.{Coded, code_by, coded×, coded_list, coded_option, coded_ℕ}, declared.option.Option.{Option}}
-use Rattle.osek_standard.specs.{declared.{app.App.{App}, point.Point.{Point}}, contracts.{app.App.{the_row as app_row}, point.Point.{the_row as point_row}}}
+use Rattle.osek_standard.specs.{declared.{app.App.{App}, point.Point.{Point}}, contracts.{app.App.{the_row as app_row}, point.Point.{the_row as point_row}}, Points.{point_number}}
 use Rattle.abstract_state.specs.{declared.edge.FlowEdge.{FlowEdge}, contracts.edge.FlowEdge.{the_row as edge_row}, Edges.{flow_edge, Edge}}
 use Rattle.abstract_state.specs.Tables.{Sets, same_point}
-use Rattle.global_cfg.specs.{Edges.{AreAscending}, PointOrder.{AreInOrder}}
+use Rattle.table_rows.specs.Order.{AscendBy}
+use Rattle.global_cfg.specs.Edges.{AreAscending}
 use Rattle.flow_watch.specs.{declared.alarm.Alarm.{Alarm}, contracts.alarm.Alarm.{the_row as alarm_row}}
 
 -- the application, the points at which its table has an entry, the edges that the table dictates, how many points were seen, the
@@ -26,7 +27,7 @@ watch_code =
 
 -- its points and its edges are in their order
 pub record AreSorted (entries : List Point) (edges : List FlowEdge) : Type 0 where
-  pub in_order : AreInOrder entries
+  pub in_order : AscendBy point_number entries
   pub ascending : AreAscending edges
 
 -- the edge leads from p to q

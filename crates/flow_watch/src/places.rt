@@ -2,11 +2,13 @@
 ghost use Rattle.std.specs.{Prelude.{◌≡◌, ◌<◌, ◌==◌, ◌&&◌, ◌||◌, nat_lt, true, false, MatchOption}, List.{list_any}};
 ghost use Rattle.osek_standard.specs.Points.{point_number};
 ghost use Rattle.abstract_state.specs.Tables.{same_point};
-ghost use Rattle.global_cfg.specs.{Edges.{AreAscending}, PointOrder.{AreInOrder}};
+ghost use Rattle.table_rows.specs.Order.{AscendBy};
+ghost use Rattle.global_cfg.specs.Edges.{AreAscending};
 ghost use Rattle.flow_watch.specs.Watches.{leads_to};
 
 use abstract_state::FlowEdge;
 use osek_standard::Point;
+use table_rows::place_of;
 
 /// Whether two points are the same.
 pub(crate) fn is_same(one: Point, other: Point) -> bool
@@ -17,14 +19,12 @@ pub(crate) fn is_same(one: Point, other: Point) -> bool
 
 /// Whether a point is among points in their order.
 pub(crate) fn has_point(points: &[Point], point: Point) -> bool
-    requires { AreInOrder points.now }
+    requires { AscendBy point_number points.now }
     ensures { result ≡ list_any (same_point point) points.now }
 {
-    let number = point.number();
-    let place = points.partition_point(|other| other.number() < number);
-    match points.get(place) {
-        None => false,
-        Some(other) => is_same(point, *other),
+    match place_of(points, point.number()) {
+        Ok(place) => is_same(point, points[place]),
+        Err(_gap) => false,
     }
 }
 

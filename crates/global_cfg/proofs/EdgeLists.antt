@@ -7,30 +7,18 @@ use Rattle.osek_standard.proofs.Members.{among_contained, among_map, contained_a
 use Rattle.abstract_state.specs.{declared.{table.{TableRow.{TableRow}, PlainTable.{PlainTable}}, edge.FlowEdge.{FlowEdge}}, Edges.{Edge}}
 use Rattle.abstract_state.specs.{Tables.{sets_of}, Written.{IsWritten}}
 use Rattle.abstract_state.specs.Edges.{flow_edge}
-use Rattle.global_cfg.specs.{Edges.{IsBefore, AreAscending}, PointOrder.{AreInOrder}, Targets.{LeadsTo, AreTargets}}
+use Rattle.table_rows.specs.Order.{AscendBy}
+use Rattle.global_cfg.specs.{Edges.{IsBefore, AreAscending}, Targets.{LeadsTo, AreTargets, AreOfRows}}
 use Rattle.global_cfg.proofs.{Pairs.{pairs_append}, TableRows.{edge_shown, edge_leads, edge_row}}
 
--- it begins at the point of a row, and leads to where a state of its entry steps
-pub record IsOfRow (app : App) (rows : List TableRow) (x : FlowEdge) : Type 0 where
-  pub row : TableRow
-  pub listed : Contains rows row
-  pub begins : x.from ≡ row.point
-  pub leads : LeadsTo app row.point row.entry x.to
-
--- the edges of these rows, in their order
-pub record AreOfRows (app : App) (rows : List TableRow) (edges : List FlowEdge) : Type 0 where
-  pub ascending : AreAscending edges
-  pub each : (x : FlowEdge) → Contains edges x → IsOfRow app rows x
-  pub all : (row : TableRow) (q : Point) → Contains rows row → LeadsTo app row.point row.entry q → Contains edges (flow_edge row.point q)
-
 -- edges from one point stand as their targets do
-from_one : (p : Point) (targets : List Point) → AreInOrder targets → AreAscending (map (flow_edge p) targets)
+from_one : (p : Point) (targets : List Point) → AscendBy point_number targets → AreAscending (map (flow_edge p) targets)
 from_one p targets order i j d lt below =
     let there : j < length targets = omega (arith, below, length-map targets (flow_edge p)) in
     let first = get_or-map (flow_edge p) targets i p d (omega (arith, lt, there)) in
     let second = get_or-map (flow_edge p) targets j p d there in
     subst (λ (x : FlowEdge). IsBefore x (get_or (map (flow_edge p) targets) j d)) (sym first)
-    (subst (IsBefore (flow_edge p (get_or targets i p))) (sym second) (inr (refl, order.pairs i j p lt there)))
+    (subst (IsBefore (flow_edge p (get_or targets i p))) (sym second) (inr (refl, order.before i j p lt there)))
 
 module _ (app : App) where
   -- one more row, whose point is above those of the others

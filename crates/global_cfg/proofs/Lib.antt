@@ -1,4 +1,3 @@
-pub mod ListTurns
 pub mod Pairs
 pub mod PointPlaces
 pub mod PuttingIn

@@ -10,10 +10,11 @@ use Rattle.numbered_sets.specs.Pools.{Values}
 use Rattle.point_exits.specs.declared.group.{NumberEnd.{NumberEnd}, ExitGroup.{ExitGroup}}
 use Rattle.point_exits.specs.declared.group.Ends.TheVariants as ends
 use Rattle.point_exits.specs.Groups.{with_end, exit_at, exits_by}
-use Rattle.global_cfg.specs.{PointOrder.{AreInOrder, HasNumber, IsPut}, Targets.{leads, end_target, IsEndOf, AreAllPut, AreEndsPut, IsTargetAfter, ArePutAfter}}
+use Rattle.table_rows.specs.Order.{AscendBy}
+use Rattle.global_cfg.specs.{PointOrder.{HasNumber, IsPut}, Targets.{leads, end_target, IsEndOf, AreAllPut, AreEndsPut, IsTargetAfter, ArePutAfter}}
 
 -- none is to be put in, or those that are have their numbers there
-pub all_there : (Has : Point → Type 0) (points : List Point) → AreInOrder points → ((q : Point) → Has q → HasNumber points (point_number q)) → AreAllPut Has points points
+pub all_there : (Has : Point → Type 0) (points : List Point) → AscendBy point_number points → ((q : Point) → Has q → HasNumber points (point_number q)) → AreAllPut Has points points
 all_there Has points order each = record { order = order; kept = λ q h. h; from = λ q h. inl h; each = each }
 
 still_there : (before after : List Point) (n : ℕ) → ((q : Point) → Contains before q → Contains after q) → HasNumber before n → HasNumber after n
@@ -46,19 +47,19 @@ put_alike First Other a b on back x = record {
 -- ---- targets after a decision
 
 module _ (p : Point) (decided : Option Decision) where
-  pub no_targets : (points : List Point) → AreInOrder points → ArePutAfter p decided [] points points
+  pub no_targets : (points : List Point) → AscendBy point_number points → ArePutAfter p decided [] points points
   no_targets points order = all_there (IsTargetAfter p decided []) points order (λ q h. absurd (contained_among [] q h.listed))
 
   only : (target q : Point) → IsTargetAfter p decided (target ∷ []) q → q ≡ target
   only target q h = elim (contained_among (target ∷ []) q h.listed) [ inl same ↦ same | inr nothing ↦ absurd nothing ]
 
   -- control flow doesn't lead on to it
-  pub not_on : (target : Point) (points : List Point) → AreInOrder points → leads target decided p ≡ false → ArePutAfter p decided (target ∷ []) points points
+  pub not_on : (target : Point) (points : List Point) → AscendBy point_number points → leads target decided p ≡ false → ArePutAfter p decided (target ∷ []) points points
   not_on target points order off = all_there (IsTargetAfter p decided (target ∷ [])) points order (λ q h.
       (let is : leads target decided p ≡ true = ap (λ (r : Point). leads r decided p) (sym (only target q h)) ∙ h.on in absurd (cc)))
 
   -- it is there
-  pub one_there : (target : Point) (points : List Point) → AreInOrder points → HasNumber points (point_number target) → ArePutAfter p decided (target ∷ []) points points
+  pub one_there : (target : Point) (points : List Point) → AscendBy point_number points → HasNumber points (point_number target) → ArePutAfter p decided (target ∷ []) points points
   one_there target points order has = all_there (IsTargetAfter p decided (target ∷ [])) points order (λ q h. subst (λ (r : Point). HasNumber points (point_number r)) (sym (only target q h)) has)
 
   -- it is put in
@@ -86,7 +87,7 @@ module _ (p : Point) (decided : Option Decision) where
 -- ---- exits
 
 module _ (p : Point) where
-  pub no_exits : (points : List Point) → AreInOrder points → AreEndsPut p [] points points
+  pub no_exits : (points : List Point) → AscendBy point_number points → AreEndsPut p [] points points
   no_exits points order = all_there (IsEndOf p []) points order (λ q h. absurd (contained_among [] h.exit h.listed))
 
   pub exits_then : (first next : List Exit) (a b c : List Point) → AreEndsPut p first a b → AreEndsPut p next b c → AreEndsPut p (first ++ next) a c

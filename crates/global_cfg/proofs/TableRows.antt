@@ -2,13 +2,13 @@
 use Rattle.std.proofs.Common.{◌≡◌, ℕ, ◌<◌, length, take, get_or, IsTrue, sym, ap, subst, ◌∙◌, arith}
 use Rattle.std.specs.Prelude.{Contains}
 use Rattle.std.proofs.lemmas.List.{get_or-take, get_or_default, length-take}
-use Rattle.osek_standard.specs.{declared.{app.App.{App}, state.State.{State}, point.Point.{Point}}, Points.{point_of}}
-use Rattle.abstract_state.specs.{declared.table.{TableRow.{TableRow}, PlainTable.{PlainTable}}, Components.{abstract_of}, Edges.{Edge}}
-use Rattle.abstract_state.specs.Tables.{In, sets_of, HasRow}
+use Rattle.osek_standard.specs.{declared.{app.App.{App}, point.Point.{Point}}}
+use Rattle.abstract_state.specs.{declared.table.{TableRow.{TableRow}, PlainTable.{PlainTable}}, Edges.{Edge}}
+use Rattle.abstract_state.specs.Tables.{sets_of, HasRow}
 use Rattle.abstract_state.specs.Written.{IsWritten}
 use Rattle.abstract_state.proofs.EqualityLaws.{written_entry}
-use Rattle.flow_model.specs.Effects.{IsAt}
-use Rattle.numbered_sets.proofs.WrittenRows.{row_number, rows_ascend, row_entered, row_value, only_there}
+use Rattle.numbered_sets.proofs.WrittenRows.{row_number, rows_ascend}
+use Rattle.table_rows.proofs.TableRows.{in_row, row_in}
 use Rattle.global_cfg.specs.Targets.{LeadsTo}
 
 module _ (app : App) (table : PlainTable) (written : IsWritten app table) where
@@ -20,29 +20,12 @@ module _ (app : App) (table : PlainTable) (written : IsWritten app table) where
       omega (arith, rows_ascend app table written h.0 i row low lt, ap row_number there, ap row_number is)
 
   module _ (row : TableRow) (listed : Contains table.rows row) where
-    -- the states of the table at the row's point are those of its entry
-    at_row : (s : State) → In app (sets_of table) s → point_of s ≡ row.point → IsAt app row.point row.entry s
-    at_row s inside at = record {
-      well = inside.well;
-      regular = inside.regular;
-      point = at;
-      within = λ c lt. only_there app table written row listed c (abstract_of app s c) (subst (λ (q : Point). IsTrue ((sets_of table).has q c (abstract_of app s c))) at (inside.within c lt));
-    }
-
-    in_table : (s : State) → IsAt app row.point row.entry s → In app (sets_of table) s
-    in_table s at = record {
-      well = at.well;
-      regular = at.regular;
-      entry = subst (λ (q : Point). IsTrue ((sets_of table).entry q)) (sym at.point) (row_entered app table written row listed);
-      within = λ c lt. subst (λ (q : Point). IsTrue ((sets_of table).has q c (abstract_of app s c))) (sym at.point) (row_value app table written row listed c (abstract_of app s c) (at.within c lt));
-    }
-
-    -- so the edges that begin there are those of its entry
+    -- the edges that begin there are those of its entry
     pub edge_shown : (q : Point) → LeadsTo app row.point row.entry q → Edge app (sets_of table) row.point q
-    edge_shown q x = record { from = x.from; event = x.event; inside = in_table x.from x.at; begins = x.at.point; ends = x.ends; moves = x.moves }
+    edge_shown q x = record { from = x.from; event = x.event; inside = row_in app table written row listed x.from x.at; begins = x.at.point; ends = x.ends; moves = x.moves }
 
     pub edge_leads : (q : Point) → Edge app (sets_of table) row.point q → LeadsTo app row.point row.entry q
-    edge_leads q x = record { from = x.from; event = x.event; at = at_row x.from x.inside x.begins; ends = x.ends; moves = x.moves }
+    edge_leads q x = record { from = x.from; event = x.event; at = in_row app table written row listed x.from x.inside x.begins; ends = x.ends; moves = x.moves }
 
   -- an edge begins at a row's point
   pub edge_row : (p q : Point) → Edge app (sets_of table) p q → HasRow table p

@@ -1,3 +1,3 @@
 pub mod PointOrder
-pub mod Targets
 pub mod Edges
+pub mod Targets

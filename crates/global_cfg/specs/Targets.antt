@@ -1,14 +1,15 @@
--- The points to which edges lead from one point, by the states of its entry.
+-- The points to which edges lead from one point, by the states of its entry, and the edges of rows.
 use Rattle.std.specs.{Prelude.{◌≡◌, ◌≢◌, ◌⊎◌, ◌||◌, ◌==◌, not, Bool, true, false, List, Some, None, Contains}, declared.option.Option.{Option}}
 use Rattle.osek_values.specs.declared.event.Event.{Event}
 use Rattle.osek_standard.specs.{declared.{app.App.{App}, state.State.{State}, point.Point.{Point}}, Points.{point_of, point_number}, Kernel.{step}}
-use Rattle.abstract_state.specs.{declared.table.PlainEntry.{PlainEntry}, Edges.{IsAnew}}
+use Rattle.abstract_state.specs.{declared.{table.{PlainEntry.{PlainEntry}, TableRow.{TableRow}}, edge.FlowEdge.{FlowEdge}}, Edges.{IsAnew, flow_edge}}
 use Rattle.flow_model.specs.declared.case.Decision.{Decision}
 use Rattle.flow_model.specs.declared.case.Decision.TheVariants as decision
 use Rattle.flow_model.specs.Effects.{IsAt}
 use Rattle.flow_exits.specs.declared.exit.Exit.{Exit}
 use Rattle.point_exits.specs.declared.group.NumberEnd.{NumberEnd}
-use Rattle.global_cfg.specs.PointOrder.{AreInOrder, HasNumber}
+use Rattle.table_rows.specs.Order.{AscendBy}
+use Rattle.global_cfg.specs.{Edges.{AreAscending}, PointOrder.{HasNumber}}
 
 -- the scheduler gives the processor to a task
 abbrev pub dispatches : Option Decision → Bool
@@ -30,7 +31,7 @@ pub record IsEndOf (p : Point) (exits : List Exit) (q : Point) : Type 0 where
 
 -- The points with a property are put in, or ones with their numbers: those after were there before or have it.
 pub record AreAllPut (Has : Point → Type 0) (before after : List Point) : Type 0 where
-  pub order : AreInOrder after
+  pub order : AscendBy point_number after
   pub kept : (q : Point) → Contains before q → Contains after q
   pub from : (q : Point) → Contains after q → Contains before q ⊎ Has q
   pub each : (q : Point) → Has q → HasNumber after (point_number q)
@@ -60,6 +61,19 @@ pub record LeadsTo (app : App) (p : Point) (entry : PlainEntry) (q : Point) : Ty
 
 -- These are the points to which edges lead, in their order.
 pub record AreTargets (app : App) (p : Point) (entry : PlainEntry) (targets : List Point) : Type 0 where
-  pub order : AreInOrder targets
+  pub order : AscendBy point_number targets
   pub each : (q : Point) → Contains targets q → LeadsTo app p entry q
   pub all : (q : Point) → LeadsTo app p entry q → Contains targets q
+
+-- it begins at the point of a row, and leads to where a state of its entry steps
+pub record IsOfRow (app : App) (rows : List TableRow) (x : FlowEdge) : Type 0 where
+  pub row : TableRow
+  pub listed : Contains rows row
+  pub begins : x.from ≡ row.point
+  pub leads : LeadsTo app row.point row.entry x.to
+
+-- the edges of these rows, in their order
+pub record AreOfRows (app : App) (rows : List TableRow) (edges : List FlowEdge) : Type 0 where
+  pub ascending : AreAscending edges
+  pub each : (x : FlowEdge) → Contains edges x → IsOfRow app rows x
+  pub all : (row : TableRow) (q : Point) → Contains rows row → LeadsTo app row.point row.entry q → Contains edges (flow_edge row.point q)

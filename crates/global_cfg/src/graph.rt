@@ -9,8 +9,9 @@ use abstract_state::{FlowEdge, Point};
 use numbered_sets::Table;
 use osek_standard::App;
 use osek_values::{Memory, Seq};
-use point_exits::Levels;
+use point_exits::ExitGroup;
 use std::alloc::Global;
+use table_rows::{RowFold, fold_rows};
 
 /// The edges that a table of the application dictates, by where they begin and then by where they end.
 pub fn edges(alloc: Global, app: &App, table: &Table) -> Result<Seq<FlowEdge>, Memory>
@@ -18,19 +19,34 @@ pub fn edges(alloc: Global, app: &App, table: &Table) -> Result<Seq<FlowEdge>, M
     ensures exact { IfOk result (λ edges. (p q : Point) → Contains edges (flow_edge p q) ↔ Edge app.now (sets_of table.now) p q) }
     ensures ascending { IfOk result AreAscending }
 {
-    let mut edges = Seq::new(alloc);
-    let numbered = table.numbered_rows(alloc)?;
-    let rows = numbered.rows;
-    let mut pool = numbered.pool;
-    if rows.len() == 0 {
-        return Ok(edges);
+    let edges = Seq::new(alloc);
+    let mut made = EdgesOfRows { edges };
+    fold_rows(alloc, app, table, &mut made)?;
+    Ok(made.edges)
+}
+
+// the edges that begin at the points of some rows
+#[derive(Drop)]
+struct EdgesOfRows {
+    edges: Seq<FlowEdge>,
+}
+
+impl RowFold for EdgesOfRows {
+    ghost use Rattle.global_cfg.specs.Targets.{AreOfRows};
+
+    ghost is_of = { λ app rows made. AreOfRows app rows made.edges };
+
+    fn add(
+        &mut self,
+        alloc: Global,
+        _app: &App,
+        point: Point,
+        groups: &[ExitGroup],
+    ) -> Result<(), Memory> {
+        let targets = targets(alloc, point, groups)?;
+        add_edges(&mut self.edges, point, targets.as_slice())?;
+        Ok(())
     }
-    let mut levels = Levels::new(alloc, app, &pool)?;
-    for row in rows.as_slice() {
-        let targets = targets(alloc, app, row, &mut pool, &mut levels)?;
-        add_edges(&mut edges, row.point, targets.as_slice())?;
-    }
-    Ok(edges)
 }
 
 // adds the edges from a point to these targets

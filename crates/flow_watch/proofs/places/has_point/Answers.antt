@@ -1,25 +1,18 @@
 -- the point that stands where the point belongs is it, or none is
-use Rattle.std.proofs.Common.{rules, sym, ◌∙◌}
-use Rattle.std.proofs.lemmas.List.Sorted.{IsPartitionPoint-from_clause}
-use Rattle.osek_standard.specs.{Points.{point_number}}
-use Rattle.abstract_state.specs.Tables.{same_point}
-use Rattle.flow_watch.proofs.Halving.{at_place, past_end, is_lower, points_parted, only_point}
+use Rattle.std.proofs.{Common.{ℕ, sym, subst, ◌∙◌}, lemmas.List.{get_or_default}}
+use Rattle.osek_standard.specs.Points.{point_number}
+use Rattle.table_rows.specs.Order.{IsPlaceBy, IsGapBy}
+use Rattle.flow_watch.proofs.Halving.{point_there, no_point_there}
 use Rattle.flow_watch.proofs.places.has_point.Goals as goal
 
-pub returns-in-None : goal.returns-in-None
-returns-in-None c =
+pub returns-in-Ok : goal.returns-in-Ok
+returns-in-Ok c =
     let points = c.args.points.now in
-    let p = c.args.point in
-    let n = point_number p in
-    let place = c.partition_point-place.result in
-    let parts = IsPartitionPoint-from_clause (is_lower n) points place c.partition_point-place.ensures.partitioned (points_parted points c.requires n) (λ a r f k. search rules) in
-    sym (past_end (same_point p) points place (only_point points c.requires p place parts) c.in-None.ensures.lookup.3)
+    let place = c.in-Ok.place in
+    let at = subst (λ (n : ℕ). IsPlaceBy point_number points n place) c.number.ensures c.in-Ok.ensures.place in
+    c.is_same.ensures ∙ sym (point_there points c.requires c.args.point place at _ (λ d. get_or_default points place _ d at.known))
 
-pub returns-in-Some : goal.returns-in-Some
-returns-in-Some c =
-    let points = c.args.points.now in
-    let p = c.args.point in
-    let n = point_number p in
-    let place = c.partition_point-place.result in
-    let parts = IsPartitionPoint-from_clause (is_lower n) points place c.partition_point-place.ensures.partitioned (points_parted points c.requires n) (λ a r f k. search rules) in
-    c.is_same.ensures ∙ sym (at_place (same_point p) points place (only_point points c.requires p place parts) c.in-Some.other.now c.in-Some.ensures.lookup.3.0 c.in-Some.ensures.lookup.3.1)
+pub returns-in-Err : goal.returns-in-Err
+returns-in-Err c =
+    let at = subst (λ (n : ℕ). IsGapBy point_number c.args.points.now n c.in-Err._gap) c.number.ensures c.in-Err.ensures.gap in
+    sym (no_point_there c.args.points.now c.requires c.args.point c.in-Err._gap at)

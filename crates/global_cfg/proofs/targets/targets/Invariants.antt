@@ -5,4 +5,4 @@ use Rattle.global_cfg.specs.Targets.{AreEndsPut}
 use Rattle.global_cfg.proofs.targets.targets.Given as goal
 
 abbrev pub invariant-loop-group : goal.invariant-loop-group
-invariant-loop-group l = (pool : List Values) → AreEndsPut l.row.point (all_exits pool (take l.group-index l.group-items)) [] l.targets.items
+invariant-loop-group l = (pool : List Values) → AreEndsPut l.from (all_exits pool (take l.group-index l.groups)) [] l.targets.items

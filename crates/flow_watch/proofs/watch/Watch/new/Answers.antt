@@ -1,8 +1,8 @@
 use Rattle.std.proofs.Common.{◌↔◌, List, IsTrue, refl, sym, subst}
 use Rattle.std.specs.Prelude.{Contains}
-use Rattle.osek_standard.specs.declared.point.Point.{Point}
+use Rattle.osek_standard.specs.{declared.point.Point.{Point}, Points.{point_number}}
 use Rattle.abstract_state.specs.Tables.{sets_of}
-use Rattle.global_cfg.specs.PointOrder.{AreInOrder}
+use Rattle.table_rows.specs.Order.{AscendBy}
 use Rattle.flow_watch.proofs.{Entries.{in_order, are_entries}, QuietRuns.{quiet_run}}
 use Rattle.flow_watch.proofs.watch.Watch.new.Goals as goal
 
@@ -17,7 +17,7 @@ returns-in_err-hints-clause-quiet c = quiet_run c.args.app (sets_of c.args.table
 
 pub invariant_of-result : goal.invariant_of-result
 invariant_of-result c = record {
-  in_order = subst AreInOrder (sym c.in_ok-entries.ensures) (in_order c.args.app c.args.table.now c.requires.written);
+  in_order = subst (AscendBy point_number) (sym c.in_ok-entries.ensures) (in_order c.args.app c.args.table.now c.requires.written);
   ascending = c.in_ok-edges.ensures.ascending;
 }
 

@@ -1,0 +1,4 @@
+pub mod ListEdits
+pub mod OrderLaws
+pub mod TableRows
+pub mod FoldLaws
