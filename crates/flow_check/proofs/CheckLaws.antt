@@ -2,16 +2,16 @@
 use Rattle.std.proofs.Common.{◌≡◌, ◌<◌, List, length, refl, sym, subst, ◌∙◌}
 use Rattle.std.specs.declared.option.Option.{Option}
 use Rattle.osek_values.specs.{declared.{event.Event.{Event}, numbers.ModeNo.{ModeNo}}}
-use Rattle.osek_standard.specs.{declared.point.Point.{Point}, Kernel.{start}, Points.{point_of}}
+use Rattle.osek_standard.specs.{declared.point.Point.{Point}, Points.{point_of}}
 use Rattle.image_model.specs.{declared.image.Image.{Image}, Laws.{IsKernelsRun}}
 use Rattle.abstract_state.specs.{declared.table.{PlainTable.{PlainTable}}, Tables.{Inductive, sets_of}, Written.{IsWritten}}
 use Rattle.dictated_forms.proofs.ImageLaws.{fitting_run}
 use Rattle.numbered_sets.specs.{declared.table.NumberedRow.{NumberedRow}, Pools.{Values, IsLonger}, PlainTables.{plain_table, AreRowsFor}}
-use Rattle.flow_check.specs.{declared.{found.Findings.{Findings}, verdict.Verdict.{Verdict}}, Rows.{AreRowsFrom}, Outcomes.{AreFound}, Flows.{IsFlow}}
+use Rattle.flow_check.specs.{declared.{found.Findings.{Findings}, verdict.Verdict.{Verdict}}, Outcomes.{AreFound}, Flows.{IsFlow}}
 use Rattle.flow_check.specs.declared.flow.Flow.TheVariants as flow
 use Rattle.flow_check.specs.declared.verdict.Verdict.TheVariants as verdict
 use Rattle.flow_check.specs.Verdicts.{StartsIn, IsFirstStartOut, IsVerdict}
-use Rattle.flow_check.proofs.TableRows.{same_table}
+use Rattle.table_rows.{specs.Rows.{AreRowsFrom}, proofs.TableRows.{same_table}}
 
 module _ (i : Image) (table : PlainTable) (written : IsWritten i.app table) (pool : List Values) (rows : List NumberedRow) (are : AreRowsFor table.rows pool rows) where
   table_is : plain_table pool rows ≡ table

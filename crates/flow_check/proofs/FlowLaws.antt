@@ -1,7 +1,7 @@
 -- The rows of a table one after another: whether the steps from the first ones stay in it, and what is found over them.
 use Rattle.std.proofs.Common.{◌≡◌, ℕ, ◌+◌, ◌<◌, ◌≤◌, List, [], ◌∷◌, ◌++◌, length, map, take, get_or, IsTrue, sym, ap, subst, ◌∙◌, inl, inr, arith, All}
 use Rattle.std.specs.{Prelude.{Contains}, declared.option.Option.{Option}}
-use Rattle.std.proofs.lemmas.{Bool.{cases_lt, cases_order}, List.{get_or-map, get_or_default, length-map, take_all}}
+use Rattle.std.proofs.lemmas.{Bool.{cases_lt, cases_order}, List.{get_or-map, get_or_default, length-map, take_all, take_more}}
 use Rattle.osek_standard.specs.{declared.{app.App.{App}, point.Point.{Point}}, Points.{point_of, point_number}}
 use Rattle.abstract_state.specs.{declared.table.{TableRow.{TableRow}, PlainTable.{PlainTable}}, Tables.{sets_of}}
 use Rattle.abstract_state.proofs.EqualityLaws.{written_entry}
@@ -9,10 +9,12 @@ use Rattle.numbered_sets.specs.{declared.table.NumberedRow.{NumberedRow}, Pools.
 use Rattle.numbered_sets.specs.PlainTables.{plain_row, plain_rows, plain_table}
 use Rattle.numbered_sets.proofs.NumberingLaws.{longer_onward}
 use Rattle.point_exits.specs.{declared.{group.ExitGroup.{ExitGroup}, levels.Levels.{Levels}}, Groups.{all_exits, AreKnownGroups}, Levels.{AreLevels}, Rows.{IsProperRow}}
-use Rattle.flow_check.specs.{declared.{found.Findings.{Findings}}, Rows.{number_of, AreRowsFrom, AreExitsOf}, Staying.{AreAllIn, IsSomeGroupOut}}
+use Rattle.table_rows.specs.Rows.{number_of, AreRowsFrom, AreExitsOf}
+use Rattle.table_rows.proofs.TableRows.{same_row_then, same_table, rows_grown, listed_plain, in_order, plain_proper}
+use Rattle.flow_check.specs.{declared.{found.Findings.{Findings}}, Staying.{AreAllIn, IsSomeGroupOut}}
 use Rattle.flow_check.specs.declared.flow.Flow.TheVariants as flow
 use Rattle.flow_check.specs.{Outcomes.{AreFound}, Verdicts.{Leaves}, Flows.{StaysAt, IsFlow}}
-use Rattle.flow_check.proofs.{RowOutcomes.{rows_more}, TableRows.{same_row_then, same_table, rows_grown, listed_plain, in_order, plain_proper}, StayLaws.{row_stays, row_leaves}}
+use Rattle.flow_check.proofs.StayLaws.{row_stays, row_leaves}
 
 -- The steps from the first rows stay in the table, and this is found over them.
 pub record HasPassed (app : App) (first pool : List Values) (rows : List NumberedRow) (k : ℕ) (its : Levels) (sites : List (Option Findings)) : Type 0 where
@@ -56,7 +58,8 @@ module _ (app : App) (first : List Values) (rows : List NumberedRow) (from : Are
         let f = plain_row first in
         let same : plain_row pool row ≡ f row = same_row_then first pool rows longer from.known row listed in
         let at : f row ≡ get_or (map f rows) k (plain_row pool row) = ap f is ∙ sym (get_or-map f rows k row (plain_row pool row) lt) in
-        e ∙ rows_more (plain_rows first rows) k (plain_row pool row) (omega (arith, lt, length-map rows f)) (same ∙ at)
+        e ∙ ap (λ (x : TableRow). take k (plain_rows first rows) ++ x ∷ []) (same ∙ at)
+        ∙ sym (take_more (plain_rows first rows) k (plain_row pool row) (omega (arith, lt, length-map rows f)))
 
     module _ (after : List Values) (on : IsLonger pool after) (groups : List ExitGroup) (of : AreExitsOf app (plain_row pool row) (all_exits after groups)) where
       abbrev later : IsLonger first after
@@ -86,7 +89,7 @@ module _ (app : App) (first : List Values) (rows : List NumberedRow) (from : Are
             | inl before ↦ l.out (stay r.among.0 r.row before l.from l.event l.inside (l.at ∙ sym r.at ∙ sym (ap (λ (x : NumberedRow). x.point) r.among.2)))
             | inr from_here ↦ elim (cases_order k r.among.0) [
               | inl same ↦ absurd (omega (arith, less, number, here, ap (λ (j : ℕ). number_of (get_or rows j r.row)) same, ap number_of r.among.2))
-              | inr (inl above) ↦ absurd (omega (arith, less, number, here, (in_order app first rows from).pairs k r.among.0 r.row above r.among.1, ap number_of r.among.2))
+              | inr (inl above) ↦ absurd (omega (arith, less, number, here, (in_order app first rows from).before k r.among.0 r.row above r.among.1, ap number_of r.among.2))
               | inr (inr below) ↦ absurd (omega (arith, below, from_here))
             ]
           ]),

@@ -15,7 +15,8 @@ use Rattle.flow_model.specs.Scheduling.{outcome_of_decision}
 use Rattle.flow_check.specs.declared.found.{Found.{Found}, Findings.{Findings}}
 use Rattle.flow_check.specs.declared.found.Found.TheVariants as found
 use Rattle.flow_check.specs.{Found.{IsSeen, outcome_seen, status_seen, AreFindings, form_of, known_of}, Outcomes.{status_noted, ArisesAt}}
-use Rattle.flow_check.proofs.{Joining.{same_status, same_seen}, RowOutcomes.{stands_once}, TableRows.{in_row, row_in}}
+use Rattle.flow_check.proofs.{Joining.{same_status, same_seen}, RowOutcomes.{stands_once}}
+use Rattle.table_rows.proofs.TableRows.{in_row, row_in}
 
 -- who has the processor stands at its block
 stands_by : (b : BlockNo) (p : Processor) → IsActive p → StandsAt (point_at b p) b

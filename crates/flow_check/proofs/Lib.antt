@@ -1,7 +1,6 @@
 pub mod Joining
 pub mod ExitOutcomes
 pub mod RowOutcomes
-pub mod TableRows
 pub mod FoundForms
 pub mod GroupEnds
 pub mod StayLaws

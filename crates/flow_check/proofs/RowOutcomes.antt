@@ -1,7 +1,7 @@
 -- What is found at each block, row by row.
-use Rattle.std.proofs.Common.{◌≡◌, ◌⊎◌, ℕ, ◌+◌, ◌<◌, Bool, true, false, List, [], ◌∷◌, ◌++◌, length, map, get_or, set, take, Some, None, refl, sym, ap, subst, ◌∙◌, inl, inr, arith}
+use Rattle.std.proofs.Common.{◌≡◌, ◌⊎◌, ℕ, ◌+◌, ◌<◌, Bool, true, false, List, [], ◌∷◌, ◌++◌, length, map, get_or, set, Some, None, refl, sym, ap, subst, ◌∙◌, inl, inr, arith}
 use Rattle.std.specs.{Prelude.{if◌then◌else◌}, List.{range_with_len}, declared.option.Option.{Option}}
-use Rattle.std.proofs.lemmas.{Bool.{cases_eq}, List.{take_more, length-set, get_or-set_same, get_or-set_other, Elements.{Contains-push, Contains-push_cases, Contains-append_left}}}
+use Rattle.std.proofs.lemmas.{Bool.{cases_eq}, List.{length-set, get_or-set_same, get_or-set_other, Elements.{Contains-push, Contains-push_cases, Contains-append_left}}}
 use Rattle.std.proofs.lemmas.List.FromFn.{get_or-map-range_with_len, length-map-range_with_len}
 use Rattle.osek_values.specs.{Numbers.{block_no}, declared.numbers.BlockNo.{BlockNo}}
 use Rattle.osek_standard.specs.declared.{app.App.{App}, point.Point.{Point}}
@@ -111,7 +111,3 @@ module _ (app : App) where
             (row_elsewhere b (get_or sites b None) (λ stands. absurd (differ (ap (λ (c : BlockNo). c.0) (stands_once row.point (block_no b) k stands here)))) (f.each b lt))
       ];
     }
-
--- the rows so far, in a loop over their list
-pub rows_more : (items : List TableRow) (i : ℕ) (row : TableRow) → i < length items → row ≡ get_or items i row → take i items ++ row ∷ [] ≡ take (i + 1) items
-rows_more items i row lt e = ap (λ (x : TableRow). take i items ++ x ∷ []) e ∙ sym (take_more items i row lt)

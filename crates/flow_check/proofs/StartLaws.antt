@@ -11,8 +11,9 @@ use Rattle.numbered_sets.specs.{declared.{numbered_entry.NumberedEntry.{Numbered
 use Rattle.numbered_sets.specs.{Views.{plain_entry, AreNumbersOf}, PlainTables.{row_at, plain_table}}
 use Rattle.point_exits.specs.{Rows.{IsRowIn}, Starts.{entry_of, IsStartRow}}
 use Rattle.point_exits.proofs.StartEntry.{entry_only}
-use Rattle.flow_check.specs.{Rows.{AreRowsFrom}, Staying.{IsRowOut, end_at, IsIn, IsOut}}
-use Rattle.flow_check.proofs.{TableRows.{same_table, rows_grown}, StayLaws.{end_in, end_out}}
+use Rattle.table_rows.{specs.Rows.{AreRowsFrom}, proofs.TableRows.{same_table, rows_grown}}
+use Rattle.flow_check.specs.Staying.{IsRowOut, end_at, IsIn, IsOut}
+use Rattle.flow_check.proofs.StayLaws.{end_in, end_out}
 
 -- what follows from a fact on true, or on false, does so on it
 pub on_true : {P Q : Type 0} (b : Bool) → (P → Q) → OnTrue b P → OnTrue b Q

@@ -17,8 +17,9 @@ use Rattle.numbered_sets.specs.{Pools.{Values, values_at, AreValues, IsNumberOf}
 use Rattle.numbered_sets.proofs.{KnownNumbers.{order_onward, one_number}, ViewLaws.{values_of, same_domains}, WrittenRows.{row_entered, row_value, only_there}}
 use Rattle.point_exits.specs.{declared.group.ExitGroup.{ExitGroup}, Groups.{all_exits, AreKnownGroups}, Rows.{IsRowIn}}
 use Rattle.point_exits.proofs.{ProperRows.{set_known}, NumberLaws.{member_number, number_member}}
-use Rattle.flow_check.specs.{Rows.{AreRowsFrom, AreExitsOf}, Staying.{IsRowOut, exit_row, NumberedEnd, IsIn, IsOut, AreAllIn, IsSomeGroupOut}, Verdicts.{Leaves}, Flows.{StaysAt}}
-use Rattle.flow_check.proofs.TableRows.{in_row, row_in, plain_listed, listed_plain, pool_is, row_point}
+use Rattle.table_rows.specs.Rows.{AreRowsFrom, AreExitsOf}
+use Rattle.flow_check.specs.{Staying.{IsRowOut, exit_row, NumberedEnd, IsIn, IsOut, AreAllIn, IsSomeGroupOut}, Verdicts.{Leaves}, Flows.{StaysAt}}
+use Rattle.table_rows.proofs.TableRows.{in_row, row_in, plain_listed, listed_plain, pool_is, row_point}
 use Rattle.flow_check.proofs.GroupEnds.{HasEnd, exit_end, end_exit, exit_by, ends_known}
 
 -- ---- by number

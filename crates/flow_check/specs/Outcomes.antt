@@ -11,7 +11,8 @@ use Rattle.point_exits.specs.{declared.group.{Ends.{Ends}, ExitGroup.{ExitGroup}
 use Rattle.point_exits.specs.declared.group.Ends.TheVariants as ends
 use Rattle.flow_check.specs.declared.found.Findings.{Findings}
 use Rattle.flow_check.specs.declared.found.Found.TheVariants as found
-use Rattle.flow_check.specs.{Found.{AreFindings}, Rows.{AreExitsOf}}
+use Rattle.table_rows.specs.Rows.{AreExitsOf}
+use Rattle.flow_check.specs.Found.{AreFindings}
 
 -- the status that an instruction notes, if it notes one
 abbrev pub status_noted : App → State → Bool → Option Status

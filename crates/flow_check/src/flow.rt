@@ -1,11 +1,11 @@
 //! The steps from the rows of a table: whether they stay in it, and what they show at the sites.
 ghost use Rattle.std.specs.Prelude.{◌≡◌, ◌<◌, length, IfOk, OnOk};
 ghost use Rattle.numbered_sets.specs.{Pools.{IsLonger}, PlainTables.{plain_table}};
-ghost use Rattle.flow_check.specs.{Rows.{AreRowsFrom}, Flows.{IsFlow}};
+ghost use Rattle.table_rows.specs.Rows.{AreRowsFrom};
+ghost use Rattle.flow_check.specs.Flows.{IsFlow};
 
 use crate::found::Findings;
 use crate::outcomes::{add_groups, no_findings};
-use crate::rows::row_groups;
 use crate::staying::all_stay;
 use abstract_state::Point;
 use numbered_sets::{NumberedRow, Pool};
@@ -13,6 +13,7 @@ use osek_standard::App;
 use osek_values::{Memory, Seq};
 use point_exits::Levels;
 use std::alloc::Global;
+use table_rows::row_groups;
 
 /// Where the steps from the states of a table lead.
 #[derive(Drop)]

@@ -1,40 +1,59 @@
 //! The outcomes and the statuses at the sites, over the rows of a table.
-ghost use Rattle.std.specs.{Prelude.{◌≡◌, ◌++◌, ◌∷◌, [], ◌<◌, List, length, slice_index_or, None, IfOk, OnOk, IfSome, IfNone}, Bool.{OnTrue, OnFalse}};
+ghost use Rattle.std.specs.{Prelude.{◌≡◌, ◌++◌, ◌∷◌, [], ◌<◌, List, length, slice_index_or, None, IfOk, IfSome, IfNone}, Bool.{OnTrue, OnFalse}};
 ghost use Rattle.osek_standard.specs.{Apps.{is_site}, Points.{StandsAt}};
 ghost use Rattle.osek_values.specs.declared.numbers.BlockNo.{BlockNo};
-ghost use Rattle.abstract_state.specs.{declared.table.TableRow.{TableRow}, Written.{IsWritten}};
+ghost use Rattle.abstract_state.specs.Written.{IsWritten};
 ghost use Rattle.flow_exits.specs.declared.exit.Exit.{Exit};
-ghost use Rattle.numbered_sets.specs.{Pools.{Values, IsLonger}, Views.{AreNumbersOf}, PlainTables.{plain_row}};
-ghost use Rattle.point_exits.specs.{Levels.{AreLevels}, Rows.{IsProperRow}, Groups.{exits_of, all_exits}};
+ghost use Rattle.numbered_sets.specs.Pools.{Values};
+ghost use Rattle.point_exits.specs.Groups.{exits_of, all_exits};
 ghost use Rattle.flow_check.specs.Outcomes.{end_count, AreOfExits, AreFound, IsFoundBeside, first_found};
 
 use crate::found::Findings;
-use crate::rows::row_groups;
 use abstract_state::Point;
 use image_model::is_site;
-use numbered_sets::{NumberedRow, Pool, Table};
+use numbered_sets::Table;
 use osek_standard::App;
 use osek_values::{BlockNo, Memory, Seq};
-use point_exits::{Ends, ExitGroup, Levels};
+use point_exits::{Ends, ExitGroup};
 use std::alloc::Global;
+use table_rows::{RowFold, fold_rows};
 
 /// What is found at each block that is a site, over the rows of a table.
 pub fn findings(alloc: Global, app: &App, table: &Table) -> Result<Seq<Option<Findings>>, Memory>
     requires { IsWritten app.now table.now }
     ensures { IfOk result (AreFound app.now table.now.rows) }
 {
-    let mut sites = no_findings(alloc, app)?;
-    let numbered = table.numbered_rows(alloc)?;
-    let rows = numbered.rows;
-    let mut pool = numbered.pool;
-    if rows.len() == 0 {
-        return Ok(sites);
+    let sites = no_findings(alloc, app)?;
+    let mut made = FoundInRows { sites };
+    fold_rows(alloc, app, table, &mut made)?;
+    Ok(made.sites)
+}
+
+// what is found at each block over some rows
+#[derive(Drop)]
+struct FoundInRows {
+    sites: Seq<Option<Findings>>,
+}
+
+impl RowFold for FoundInRows {
+    ghost use Rattle.flow_check.specs.Outcomes.{AreFound};
+
+    ghost is_of = { λ app rows made. AreFound app rows made.sites };
+
+    fn asks_for(&self, _app: &App, point: Point) -> bool {
+        is_at_site(point, &self.sites)
     }
-    let mut levels = Levels::new(alloc, app, &pool)?;
-    for row in rows.as_slice() {
-        add_row(alloc, app, row, &mut pool, &mut levels, &mut sites)?;
+
+    fn add(
+        &mut self,
+        _alloc: Global,
+        _app: &App,
+        point: Point,
+        groups: &[ExitGroup],
+    ) -> Result<(), Memory> {
+        add_groups(point, groups, &mut self.sites);
+        Ok(())
     }
-    Ok(sites)
 }
 
 /// Nothing is found yet at any site.
@@ -57,31 +76,6 @@ fn no_finding(app: &App, block: BlockNo) -> Option<Findings>
     } else {
         None
     }
-}
-
-// adds what the states of a row show, where it stands at a site
-fn add_row(
-    alloc: Global,
-    app: &App,
-    row: &NumberedRow,
-    pool: &mut Pool,
-    levels: &mut Levels,
-    sites: &mut Seq<Option<Findings>>,
-) -> Result<(), Memory>
-    requires numbers { AreNumbersOf pool.old row.now.entry }
-    requires proper { IsProperRow app.now (plain_row pool.old row.now) }
-    requires levels { AreLevels app.now pool.old levels.old }
-    requires count { length sites.old ≡ length app.now.blocks }
-    ensures pool { IsLonger pool.old pool.new }
-    ensures levels { OnOk result (AreLevels app.now pool.new levels.new) }
-    ensures found { OnOk result ((rows : List TableRow) → AreFound app.now rows sites.old → AreFound app.now (rows ++ plain_row pool.old row.now ∷ []) sites.new) }
-{
-    if !is_at_site(row.point, sites) {
-        return Ok(());
-    }
-    let groups = row_groups(alloc, app, row, pool, levels)?;
-    add_groups(row.point, groups.as_slice(), sites);
-    Ok(())
 }
 
 fn is_at_site(point: Point, sites: &Seq<Option<Findings>>) -> bool

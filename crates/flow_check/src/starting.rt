@@ -3,7 +3,8 @@ ghost use Rattle.std.specs.{Prelude.{◌≡◌, ◌<◌, length, IfOk, IfSome, I
 ghost use Rattle.osek_standard.specs.Kernel.{start};
 ghost use Rattle.abstract_state.specs.{Tables.{In, sets_of}};
 ghost use Rattle.numbered_sets.specs.{Pools.{IsLonger}, PlainTables.{plain_table}};
-ghost use Rattle.flow_check.specs.{Rows.{AreRowsFrom}, Verdicts.{StartsIn, IsFirstStartOut}};
+ghost use Rattle.table_rows.specs.Rows.{AreRowsFrom};
+ghost use Rattle.flow_check.specs.Verdicts.{StartsIn, IsFirstStartOut};
 
 use crate::staying::is_in;
 use numbered_sets::{NumberedRow, Pool, numbered};

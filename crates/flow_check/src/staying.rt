@@ -3,7 +3,8 @@ ghost use Rattle.std.specs.{Prelude.{◌≡◌, Contains, IfOk, OnOk}, Bool.{OnT
 ghost use Rattle.point_exits.specs.declared.group.ExitGroup.{ExitGroup};
 ghost use Rattle.point_exits.specs.declared.group.Ends.TheVariants as ends_of;
 ghost use Rattle.point_exits.specs.Groups.{with_end};
-ghost use Rattle.flow_check.specs.{Rows.{AreInOrder}, Staying.{IsIn, IsOut, AreIn, IsSomeOut, AreAllIn, IsSomeGroupOut, HasSetOf, HasSetFor, end_at, ends_by}};
+ghost use Rattle.table_rows.specs.{Order.{AscendBy}, Rows.{number_of}};
+ghost use Rattle.flow_check.specs.Staying.{IsIn, IsOut, AreIn, IsSomeOut, AreAllIn, IsSomeGroupOut, HasSetOf, HasSetFor, end_at, ends_by};
 
 use crate::rows::row_at;
 use abstract_state::Point;
@@ -19,7 +20,7 @@ pub(crate) fn all_stay(
     rows: &[NumberedRow],
 ) -> Result<bool, Memory>
     requires sets { (g : ExitGroup) → Contains groups.now g → HasSetFor g.entry g.ends }
-    requires order { AreInOrder rows.now }
+    requires order { AscendBy number_of rows.now }
     ensures stay { IfOk result (λ stay. OnTrue stay (AreAllIn rows.now groups.now)) }
     ensures out { IfOk result (λ stay. OnFalse stay (IsSomeGroupOut rows.now groups.now)) }
 {
@@ -34,7 +35,7 @@ pub(crate) fn all_stay(
 
 fn stays(alloc: Global, group: &ExitGroup, rows: &[NumberedRow]) -> Result<bool, Memory>
     requires set { HasSetFor group.now.entry group.now.ends }
-    requires order { AreInOrder rows.now }
+    requires order { AscendBy number_of rows.now }
     ensures stay { IfOk result (λ stay. OnTrue stay (AreIn rows.now (ends_by group.now.entry group.now.ends))) }
     ensures out { IfOk result (λ stay. OnFalse stay (IsSomeOut rows.now (ends_by group.now.entry group.now.ends))) }
 {
@@ -49,7 +50,7 @@ fn stays(alloc: Global, group: &ExitGroup, rows: &[NumberedRow]) -> Result<bool,
 
 // at each of these points, with all numbers
 fn all_at(points: &[Point], entry: &NumberedEntry, rows: &[NumberedRow]) -> bool
-    requires { AreInOrder rows.now }
+    requires { AscendBy number_of rows.now }
     ensures stay { OnTrue result (AreIn rows.now (ends_by entry.now (ends_of.At points.now))) }
     ensures out { OnFalse result (IsSomeOut rows.now (ends_by entry.now (ends_of.At points.now))) }
 {
@@ -69,7 +70,7 @@ fn all_with(
     rows: &[NumberedRow],
 ) -> Result<bool, Memory>
     requires set { HasSetFor entry (ends_of.With ends.now) }
-    requires order { AreInOrder rows.now }
+    requires order { AscendBy number_of rows.now }
     ensures stay { IfOk result (λ stay. OnTrue stay (AreIn rows.now (ends_by entry (ends_of.With ends.now)))) }
     ensures out { IfOk result (λ stay. OnFalse stay (IsSomeOut rows.now (ends_by entry (ends_of.With ends.now)))) }
 {
@@ -90,7 +91,7 @@ fn is_end_in(
     rows: &[NumberedRow],
 ) -> Result<bool, Memory>
     requires set { HasSetOf entry.old end.now }
-    requires order { AreInOrder rows.now }
+    requires order { AscendBy number_of rows.now }
     ensures entry { OnOk result (entry.new ≡ entry.old) }
     ensures within { IfOk result (λ is_in. OnTrue is_in (IsIn rows.now (end_at end.now.target (with_end entry.old end.now)))) }
     ensures out { IfOk result (λ is_in. OnFalse is_in (IsOut rows.now (end_at end.now.target (with_end entry.old end.now)))) }
@@ -104,7 +105,7 @@ fn is_end_in(
 
 /// Whether a point has a row, with all numbers of an entry.
 pub(crate) fn is_in(point: Point, entry: &NumberedEntry, rows: &[NumberedRow]) -> bool
-    requires { AreInOrder rows.now }
+    requires { AscendBy number_of rows.now }
     ensures within { OnTrue result (IsIn rows.now (end_at point entry.now)) }
     ensures out { OnFalse result (IsOut rows.now (end_at point entry.now)) }
 {

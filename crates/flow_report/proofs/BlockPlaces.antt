@@ -13,8 +13,7 @@ use Rattle.abstract_state.proofs.{ComponentLaws.{task_counted}, Numbers.{number_
 use Rattle.flow_model.specs.Tests.{passes}
 use Rattle.flow_model.specs.declared.test.Test.TheVariants as test
 use Rattle.numbered_sets.specs.{declared.table.NumberedRow.{NumberedRow}, Pools.{Values}, PlainTables.{plain_row, plain_table}}
-use Rattle.flow_check.specs.Rows.{AreRowsFrom}
-use Rattle.flow_check.proofs.TableRows.{in_order, plain_proper, listed_plain, plain_listed}
+use Rattle.table_rows.{specs.Rows.{AreRowsFrom}, proofs.TableRows.{in_order, plain_proper, listed_plain, plain_listed}}
 use Rattle.flow_report.specs.{Findings.{IsReachedBlock}, Reached.{HasPassing, IsTakenAt, IsHeldIn, ArePartedAt, comes_before, table_of}}
 use Rattle.flow_report.proofs.{RowStates.{row_of_state}, ShownRows.{block_reached, state_of_row, row_by_state}, BlockFindings.{taken_by, taken_by_routine, holder_of}}
 
@@ -76,7 +75,7 @@ module _ (app : App) (pool : List Values) (rows : List NumberedRow) (from : AreR
       | inl e ↦ e
       | inr e ↦
           (let less = before_lower app (get_or rows j d).point (get_or rows i d).point b (point_there j d lt) (point_there i d (omega (arith, le, lt))) before e in
-          absurd (omega (arith, less, (in_order app pool rows from).pairs i j d (omega (arith, le, other)) lt)))
+          absurd (omega (arith, less, (in_order app pool rows from).before i j d (omega (arith, le, other)) lt)))
     ]
   ]
 
@@ -92,7 +91,7 @@ module _ (app : App) (pool : List Values) (rows : List NumberedRow) (from : AreR
         | inl here ↦ other d (omega (arith, up, lt)) here
         | inr h ↦
             (let less = by_block app (get_or rows k d).point (get_or rows j d).point b h.block (point_there k d lt) (point_there j d (omega (arith, up, lt))) at h.stands h.behind in
-            omega (arith, less, (in_order app pool rows from).pairs j k d (omega (arith, up, apart)) lt))
+            omega (arith, less, (in_order app pool rows from).before j k d (omega (arith, up, apart)) lt))
       ]
     ]
 

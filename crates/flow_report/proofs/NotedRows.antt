@@ -7,7 +7,7 @@ use Rattle.osek_standard.specs.{TraceText.{has_hook}, Effects.{wanted}, Kernel.{
 use Rattle.abstract_state.specs.{declared.table.{TableRow.{TableRow}, PlainTable.{PlainTable}}, Tables.{Sets, sets_of}, Written.{IsWritten}}
 use Rattle.flow_exits.specs.{declared.exit.Exit.{Exit}, Exits.{CoverSteps, AreExact}}
 use Rattle.flow_exits.proofs.ExactExits.{some_value}
-use Rattle.flow_check.proofs.TableRows.{row_in}
+use Rattle.table_rows.proofs.TableRows.{row_in}
 use Rattle.flow_report.specs.{declared.finding.Finding.{Finding}, Findings.{IsHook, NoStepIs, Holds}, FindingOrder.{rank, hook_place}}
 use Rattle.flow_report.specs.Noting.{due_hooks, exit_hooks, NotesByExit, NotesAtStart, NotesInRow, NotesInRows, NotesInTable, AreHooks}
 use Rattle.flow_report.specs.declared.finding.Finding.TheVariants as finding

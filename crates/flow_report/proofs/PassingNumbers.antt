@@ -11,7 +11,7 @@ use Rattle.numbered_sets.specs.{Numbers.{Numbers, has_number}, NumberedEntries.{
 use Rattle.numbered_sets.specs.PlainTables.{plain_row, plain_rows, plain_table}
 use Rattle.numbered_sets.proofs.{PlainLaws.{member_of_plain, plain_set_at, value_with_number}, KnownNumbers.{found}}
 use Rattle.numbered_sets.proofs.{WrittenRows.{row_there, number_domains_of}}
-use Rattle.flow_check.specs.Rows.{AreRowsFrom}
+use Rattle.table_rows.specs.Rows.{AreRowsFrom}
 use Rattle.flow_report.specs.Reached.{HasPassing}
 
 module _ (vs : List PartValue) (t : Test) (x : Numbers) (end : ℕ) where

@@ -9,7 +9,7 @@ use Rattle.abstract_state.proofs.{ConcreteLaws.{state_has_parts, choice_allowed}
 use Rattle.flow_model.specs.Effects.{AreIn, IsAt}
 use Rattle.numbered_sets.proofs.WrittenRows.{row_there, row_allowed}
 use Rattle.flow_exits.proofs.ExactExits.{some_value}
-use Rattle.flow_check.proofs.TableRows.{row_proper, in_row, row_in}
+use Rattle.table_rows.proofs.TableRows.{row_proper, in_row, row_in}
 
 -- a row of the state's point, which has its values
 pub record RowOf (app : App) (table : PlainTable) (s : State) : Type 0 where

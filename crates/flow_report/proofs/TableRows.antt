@@ -3,7 +3,7 @@ use Rattle.std.proofs.Common.{List, sym, subst}
 use Rattle.osek_standard.specs.declared.app.App.{App}
 use Rattle.abstract_state.specs.{declared.table.{TableRow.{TableRow}, PlainTable.{PlainTable}}, Tables.{sets_of}, Written.{IsWritten}}
 use Rattle.numbered_sets.specs.{declared.table.NumberedRow.{NumberedRow}, Pools.{Values}, PlainTables.{AreRowsFor}}
-use Rattle.flow_check.specs.Rows.{AreRowsFrom}
+use Rattle.table_rows.specs.Rows.{AreRowsFrom}
 use Rattle.flow_report.specs.{FindingOrder.{Rank}, Progress.{AreListed}, Reached.{table_of}, declared.finding.Finding.{Finding}}
 
 abbrev table_with : List TableRow → PlainTable

@@ -15,7 +15,7 @@ impl<'a> Reached<'a> {
     ghost use Rattle.osek_standard.specs.Apps.{the_task};
     ghost use Rattle.flow_report.specs.declared.finding.Finding.TheVariants as finding;
     ghost use Rattle.flow_report.specs.{Findings.{Holds}, FindingOrder.{rank_at}, Progress.{AreListed}, Reached.{table_of}};
-    ghost use Rattle.flow_check.specs.Rows.{AreRowsFrom};
+    ghost use Rattle.table_rows.specs.Rows.{AreRowsFrom};
 
     fn is_suspended(&self, task: TaskNo) -> bool
         requires rows { AreRowsFrom self.now.app.now self.now.pool.now self.now.rows.now }

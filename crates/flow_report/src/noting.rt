@@ -1,24 +1,24 @@
 //! The hooks that run.
-ghost use Rattle.std.specs.{Prelude.{◌≡◌, ◌⊎◌, ◌<◌, List, length, IfOk, OnOk}, Bool.{OnTrue, OnFalse}};
+ghost use Rattle.std.specs.{Prelude.{◌≡◌, ◌⊎◌, ◌<◌, List, length, IfOk}, Bool.{OnTrue, OnFalse}};
 ghost use Rattle.osek_values.specs.Hooks.{hook_set};
 ghost use Rattle.osek_standard.specs.{Points.{IsPoint}, Effects.{is_error as is_error_of}, Outcomes.{Did}};
 ghost use Rattle.abstract_state.specs.{Tables.{sets_of}, Written.{IsWritten}};
 ghost use Rattle.flow_model.specs.Scheduling.{outcome_of_decision};
-ghost use Rattle.numbered_sets.specs.{Pools.{Values, IsLonger}, Views.{AreNumbersOf}, PlainTables.{plain_row}};
-ghost use Rattle.point_exits.specs.{Levels.{AreLevels}, Rows.{IsProperRow}, Groups.{exits_of}};
+ghost use Rattle.numbered_sets.specs.Pools.{Values};
+ghost use Rattle.point_exits.specs.Groups.{exits_of, all_exits};
 ghost use Rattle.flow_check.specs.Outcomes.{end_count};
-ghost use Rattle.flow_report.specs.Noting.{AreHooks, NotesAtStart, NotesInRow, NotesInRows, NotesInTable, NotesByExit, due_hooks};
+ghost use Rattle.flow_report.specs.Noting.{AreHooks, NotesAtStart, NotesInRows, NotesInTable, NotesByExit, due_hooks};
 ghost use Rattle.flow_report.specs.Noting.{shuts_down as shuts_down_at, over_some as over_some_at, dispatch_hooks_at};
 
 use abstract_state::Point;
-use flow_exits::laws::steps_end_at_exits;
 use flow_model::Decision;
 use generic_kernel::start;
-use numbered_sets::{NumberedRow, Pool, Table};
+use numbered_sets::Table;
 use osek_standard::{App, Call, Kind};
 use osek_values::{HookSet, Memory, ModeNo, Status};
-use point_exits::{Ends, ExitGroup, Levels, exit_groups};
+use point_exits::{Ends, ExitGroup};
 use std::alloc::Global;
+use table_rows::{RowFold, fold_rows};
 
 /// The hooks that the start in some mode notes, or some step from a state in a table.
 pub fn hooks_noted(alloc: Global, app: &App, table: &Table) -> Result<HookSet, Memory>
@@ -47,43 +47,46 @@ fn hooks_of_rows(alloc: Global, app: &App, table: &Table) -> Result<HookSet, Mem
     requires { IsWritten app.now table.now }
     ensures { IfOk result (AreHooks (λ h. NotesInRows app.now h table.now.rows)) }
 {
-    let mut hooks = HookSet::none();
-    let numbered = table.numbered_rows(alloc)?;
-    let rows = numbered.rows;
-    let mut pool = numbered.pool;
-    if rows.len() == 0 {
-        return Ok(hooks);
-    }
-    let mut levels = Levels::new(alloc, app, &pool)?;
-    for row in rows.as_slice() {
-        let of_row = hooks_of_row(alloc, app, row, &mut pool, &mut levels)?;
-        hooks = hooks.with(of_row);
-    }
-    Ok(hooks)
+    let hooks = HookSet::none();
+    let mut made = HooksOfRows { hooks };
+    fold_rows(alloc, app, table, &mut made)?;
+    Ok(made.hooks)
 }
 
-// the hooks of the steps from the states of a row
-fn hooks_of_row(
-    alloc: Global,
-    app: &App,
-    row: &NumberedRow,
-    pool: &mut Pool,
-    levels: &mut Levels,
-) -> Result<HookSet, Memory>
-    requires numbers { AreNumbersOf pool.old row.now.entry }
-    requires proper { IsProperRow app.now (plain_row pool.old row.now) }
-    requires levels { AreLevels app.now pool.old levels.old }
-    ensures pool { IsLonger pool.old pool.new }
-    ensures levels { OnOk result (AreLevels app.now pool.new levels.new) }
-    ensures hooks { IfOk result (AreHooks (λ h. NotesInRow app.now h (plain_row pool.old row.now))) }
-{
-    steps_end_at_exits();
-    let groups = exit_groups(alloc, app, row.point, &row.entry, pool, levels)?;
-    let mut hooks = HookSet::none();
-    for group in groups.as_slice() {
-        hooks = hooks.with(hooks_of_group(app, row.point, group));
+// the hooks of the steps from the states of some rows
+#[derive(Drop)]
+struct HooksOfRows {
+    hooks: HookSet,
+}
+
+impl RowFold for HooksOfRows {
+    ghost use Rattle.flow_report.specs.Noting.{AreHooks, NotesInRows};
+
+    ghost is_of = { λ app rows made. AreHooks (λ h. NotesInRows app h rows) made.hooks };
+
+    fn add(
+        &mut self,
+        _alloc: Global,
+        app: &App,
+        point: Point,
+        groups: &[ExitGroup],
+    ) -> Result<(), Memory> {
+        let of_row = hooks_of_groups(app, point, groups);
+        self.hooks = self.hooks.with(of_row);
+        Ok(())
     }
-    Ok(hooks)
+}
+
+// the hooks of the exits of a point
+fn hooks_of_groups(app: &App, point: Point, groups: &[ExitGroup]) -> HookSet
+    requires { IsPoint app.now point }
+    ensures { (pool : List Values) → AreHooks (NotesByExit app.now point (all_exits pool groups.now)) result }
+{
+    let mut hooks = HookSet::none();
+    for group in groups {
+        hooks = hooks.with(hooks_of_group(app, point, group));
+    }
+    hooks
 }
 
 // the hooks of the exits of a group, which all note the same

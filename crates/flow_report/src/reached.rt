@@ -23,7 +23,7 @@ impl<'a> Reached<'a> {
     ghost use Rattle.abstract_state.specs.Components.{component_count};
     ghost use Rattle.numbered_sets.specs.PlainTables.{plain_row};
     ghost use Rattle.flow_report.specs.{Reached.{ShowsState, IsTakenAt, IsHeldByTask, IsHeldByRoutine, IsHeldIn, ArePartedAt, table_of}, Findings.{IsReachedBlock}};
-    ghost use Rattle.flow_check.specs.Rows.{AreRowsFrom};
+    ghost use Rattle.table_rows.specs.Rows.{AreRowsFrom};
 
     /// Whether a component's value passes a test in some state.
     pub fn is_shown(&self, component: usize, test: &Test) -> bool

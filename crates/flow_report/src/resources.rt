@@ -14,7 +14,7 @@ impl<'a> Reached<'a> {
     ghost use Rattle.std.specs.{Prelude.{◌≡◌, ◌<◌, length, OnOk}, Bool.{Decides}};
     ghost use Rattle.flow_report.specs.declared.finding.Finding.TheVariants as finding;
     ghost use Rattle.flow_report.specs.{Findings.{Holds}, FindingOrder.{rank_at}, Progress.{AreListed}, Reached.{table_of}};
-    ghost use Rattle.flow_check.specs.Rows.{AreRowsFrom};
+    ghost use Rattle.table_rows.specs.Rows.{AreRowsFrom};
 
     fn is_free(&self, block: BlockNo) -> bool
         requires rows { AreRowsFrom self.now.app.now self.now.pool.now self.now.rows.now }

@@ -4,7 +4,7 @@ use Rattle.osek_values.specs.declared.numbers.ModeNo.{ModeNo}
 use Rattle.abstract_state.specs.Tables.{sets_of}
 use Rattle.numbered_sets.specs.{PlainTables.{plain_table, AreRowsFor}}
 use Rattle.flow_check.specs.{declared.{found.Findings.{Findings}}, Outcomes.{AreFound}, Flows.{IsFlow}, Verdicts.{StartsIn, IsFirstStartOut}}
-use Rattle.flow_check.proofs.TableRows.{rows_grown}
+use Rattle.table_rows.proofs.TableRows.{rows_grown}
 use Rattle.flow_check.proofs.CheckLaws.{rows_from, first_out, left, inductive, all_found, kernel_by}
 use Rattle.flow_check.proofs.checking.check.Goals as goal
 

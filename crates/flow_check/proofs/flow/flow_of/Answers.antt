@@ -5,8 +5,9 @@ use Rattle.abstract_state.specs.{declared.table.TableRow.{TableRow}, Tables.{set
 use Rattle.numbered_sets.specs.{declared.table.NumberedRow.{NumberedRow}, PlainTables.{plain_row, plain_rows, plain_table}}
 use Rattle.numbered_sets.proofs.{NumberingLaws.{longer_itself, longer_onward}, WrittenRows.{pool_has_tasks}}
 use Rattle.point_exits.specs.{declared.group.ExitGroup.{ExitGroup}, Groups.{all_exits}}
-use Rattle.flow_check.specs.{Rows.{AreExitsOf}, Staying.{AreAllIn, IsSomeGroupOut}, Outcomes.{AreFound}, Flows.{StaysAt}}
-use Rattle.flow_check.proofs.{RowOutcomes.{stands_known}, TableRows.{in_order}, GroupEnds.{set_for}}
+use Rattle.table_rows.{specs.Rows.{AreExitsOf}, proofs.TableRows.{in_order}}
+use Rattle.flow_check.specs.{Staying.{AreAllIn, IsSomeGroupOut}, Outcomes.{AreFound}, Flows.{StaysAt}}
+use Rattle.flow_check.proofs.{RowOutcomes.{stands_known}, GroupEnds.{set_for}}
 use Rattle.flow_check.proofs.FlowLaws.{numbers_there, proper_there, next_row, stays_there, leaves_there, flow_leaves, flow_stays}
 use Rattle.flow_check.proofs.flow.flow_of.Goals as goal
 

@@ -4,7 +4,7 @@ use Rattle.osek_standard.specs.Kernel.{start}
 use Rattle.abstract_state.specs.{declared.table.PlainTable.{PlainTable}, Tables.{In, sets_of}}
 use Rattle.numbered_sets.specs.PlainTables.{plain_table}
 use Rattle.numbered_sets.proofs.NumberingLaws.{longer_itself, longer_onward}
-use Rattle.flow_check.proofs.TableRows.{same_table, rows_grown}
+use Rattle.table_rows.proofs.TableRows.{same_table, rows_grown}
 use Rattle.flow_check.proofs.starting.first_start_out.Goals as goal
 
 pub loop-mode-init : goal.loop-mode-init

@@ -1,7 +1,7 @@
 use Rattle.std.proofs.Common.{[], sym, ◌∙◌, get_or}
 use Rattle.osek_standard.specs.declared.point.Point.TheVariants as point
 use Rattle.numbered_sets.specs.declared.table.NumberedRow.{NumberedRow}
-use Rattle.flow_check.proofs.TableRows.{first_listed, pool_is, in_order}
+use Rattle.table_rows.proofs.TableRows.{first_listed, pool_is, in_order}
 use Rattle.flow_check.proofs.StartLaws.{on_true, on_false, start_told_in, start_told_out}
 use Rattle.flow_check.proofs.starting.is_start_in.Goals as goal
 
