@@ -1,24 +1,15 @@
 -- The rows of a written table: the states of each, and the edges that begin there.
-use Rattle.std.proofs.Common.{◌≡◌, ℕ, ◌<◌, length, take, get_or, IsTrue, sym, ap, subst, ◌∙◌, arith}
+use Rattle.std.proofs.Common.{IsTrue, subst}
 use Rattle.std.specs.Prelude.{Contains}
-use Rattle.std.proofs.lemmas.List.{get_or-take, get_or_default, length-take}
 use Rattle.osek_standard.specs.{declared.{app.App.{App}, point.Point.{Point}}}
 use Rattle.abstract_state.specs.{declared.table.{TableRow.{TableRow}, PlainTable.{PlainTable}}, Edges.{Edge}}
 use Rattle.abstract_state.specs.Tables.{sets_of, HasRow}
 use Rattle.abstract_state.specs.Written.{IsWritten}
 use Rattle.abstract_state.proofs.EqualityLaws.{written_entry}
-use Rattle.numbered_sets.proofs.WrittenRows.{row_number, rows_ascend}
 use Rattle.table_rows.proofs.TableRows.{in_row, row_in}
 use Rattle.global_cfg.specs.Targets.{LeadsTo}
 
 module _ (app : App) (table : PlainTable) (written : IsWritten app table) where
-  -- in a loop over them, those before a row have lower points
-  pub earlier_row : (i : ℕ) (row : TableRow) → i < length table.rows → row ≡ get_or table.rows i row → (x : TableRow) → Contains (take i table.rows) x → row_number x < row_number row
-  earlier_row i row lt is x h =
-      let low : h.0 < i = omega (arith, h.1, length-take i table.rows) in
-      let there : get_or table.rows h.0 row ≡ x = get_or_default table.rows h.0 row x (omega (arith, low, lt)) ∙ sym (get_or-take i table.rows h.0 x low) ∙ h.2 in
-      omega (arith, rows_ascend app table written h.0 i row low lt, ap row_number there, ap row_number is)
-
   module _ (row : TableRow) (listed : Contains table.rows row) where
     -- the edges that begin there are those of its entry
     pub edge_shown : (q : Point) → LeadsTo app row.point row.entry q → Edge app (sets_of table) row.point q

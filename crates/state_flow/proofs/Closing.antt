@@ -13,7 +13,7 @@ use Rattle.abstract_state.specs.Regular.{IsRegular}
 use Rattle.abstract_state.proofs.{RegularLaws.{start_regular, step_regular}, ContainmentLaws.{in_larger}, AlikeLaws.{in_alike}, MarkLaws.{shown_silent}}
 use Rattle.flow_model.specs.Effects.{IsAt}
 use Rattle.numbered_sets.specs.PlainTables.{row_at}
-use Rattle.state_flow.specs.{declared.cells.Cell.{Cell}, Cells.{AreInOrder, IsWaitingAt, NoneWaitsFrom, WasEvaluatedWith, cell_number, waits, waiting_count}}
+use Rattle.state_flow.specs.{declared.cells.Cell.{Cell}, Cells.{AreCellsInOrder, IsWaitingAt, NoneWaitsFrom, WasEvaluatedWith, cell_number, waits, waiting_count}}
 use Rattle.point_exits.specs.Rows.{IsProperRow, IsRowIn}
 use Rattle.state_flow.specs.Rows.{row_of, sets_in}
 use Rattle.point_exits.specs.Starts.{IsStartRow}
@@ -37,7 +37,7 @@ module _ (app : App) where
         within = λ c lt. subst (λ (q : Point). IsTrue (table.has q c (abstract_of app s c))) (sym l.point) (row.has c (abstract_of app s c) (l.within c lt));
       }
 
-  module _ (cells : List (Cell PlainEntry)) (cell : Cell PlainEntry) (order : AreInOrder cells) (among : Contains cells cell) where
+  module _ (cells : List (Cell PlainEntry)) (cell : Cell PlainEntry) (order : AreCellsInOrder cells) (among : Contains cells cell) where
     -- a state of the table at a cell's point is one of its entry
     pub at_cell : (s : State) → In app (sets_in cells) s → point_of s ≡ cell.point → IsAt app cell.point cell.entry s
     at_cell s h at = record {
@@ -73,7 +73,7 @@ module _ (cells : List (Cell PlainEntry)) (place : ℕ) (cell : Cell PlainEntry)
 
   pub evaluated_proper : (app : App) → AreProperCells app cells → AreProperCells app (set cells place (evaluated cell kept))
   evaluated_proper app proper_cells = record {
-    order = order_set cells place (evaluated cell kept) proper_cells.order known (ap cell_number (get_or_default cells place (evaluated cell kept) cell known ∙ is))
+    order = order_set cells proper_cells.order place (evaluated cell kept) known (ap cell_number (get_or_default cells place (evaluated cell kept) cell known ∙ is))
         (subst (λ (x : Cell PlainEntry). x.number ≡ cell_number x) is (proper_cells.order.told place cell known));
     each = λ x h. elim (set_cases cells place (evaluated cell kept) x h) [
       | inl e ↦ subst (λ (y : Cell PlainEntry). IsProperRow app (row_of y)) (sym e) (proper_cells.each cell (place, known, is))

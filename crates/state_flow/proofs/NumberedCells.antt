@@ -10,7 +10,7 @@ use Rattle.numbered_sets.specs.{declared.{numbered_entry.NumberedEntry.{Numbered
 use Rattle.numbered_sets.specs.{Pools.{Values, no_values, pool_domains, AreValues, IsLonger}, Views.{plain_entry, AreNumbersOf}}
 use Rattle.numbered_sets.proofs.{ViewLaws.{same_view, still_known, same_heights, same_domains}, KnownNumbers.{known_sound}}
 use Rattle.numbered_sets.specs.PlainTables.{row_at, plain_row, plain_rows}
-use Rattle.state_flow.specs.{declared.cells.Cell.{Cell}, Cells.{cell_number, AreInOrder, IsWaitingAt, NoneWaitsFrom, MayJoin, IsJoined}}
+use Rattle.state_flow.specs.{declared.cells.Cell.{Cell}, Cells.{cell_number, AreCellsInOrder, IsWaitingAt, NoneWaitsFrom, MayJoin, IsJoined}}
 use Rattle.point_exits.specs.Rows.{IsProperRow}
 use Rattle.state_flow.specs.Progress.{AreProperCells, AreJoined}
 use Rattle.state_flow.proofs.{CellLists.{set_cases}, JoinedRows.{may_join, joined_one}, Closing.{evaluated, evaluated_proper, progress_made}}
@@ -20,18 +20,20 @@ use Rattle.state_flow.proofs.{KeptEntries.{some_of_map, kept_same}, NewStates.{r
 plain_at : (pool : List Values) (cells : List (Cell NumberedEntry)) (k : ℕ) (d : Cell PlainEntry) (some : Cell NumberedEntry) → k < length cells → get_or (plain_cells pool cells) k d ≡ plain_cell pool (get_or cells k some)
 plain_at pool cells k d some lt = get_or-map (plain_cell pool) cells k some d lt
 
-pub numbered_order : (pool : List Values) (cells : List (Cell NumberedEntry)) → AreInOrder (plain_cells pool cells) → AreInOrder cells
+pub numbered_order : (pool : List Values) (cells : List (Cell NumberedEntry)) → AreCellsInOrder (plain_cells pool cells) → AreCellsInOrder cells
 numbered_order pool cells order = record {
   told = λ k d lt.
       (let long = length-map cells (plain_cell pool) in
       let here = plain_at pool cells k (plain_cell pool d) d lt in
       sym (ap (λ (x : Cell PlainEntry). x.number) here) ∙ order.told k (plain_cell pool d) (omega (arith, lt, long)) ∙ ap cell_number here);
-  before = λ i j d lt known.
-      (let first = ap cell_number (plain_at pool cells i (plain_cell pool d) d (omega (arith, lt, known))) in
-      let second = ap cell_number (plain_at pool cells j (plain_cell pool d) d known) in
-      let long = length-map cells (plain_cell pool) in
-      let before = order.before i j (plain_cell pool d) lt (omega (arith, known, long)) in
-      omega (arith, first, second, before));
+  ascend = record {
+    before = λ i j d lt known.
+        (let first = ap cell_number (plain_at pool cells i (plain_cell pool d) d (omega (arith, lt, known))) in
+        let second = ap cell_number (plain_at pool cells j (plain_cell pool d) d known) in
+        let long = length-map cells (plain_cell pool) in
+        let before = order.ascend.before i j (plain_cell pool d) lt (omega (arith, known, long)) in
+        omega (arith, first, second, before));
+  };
 }
 
 -- cells that wait

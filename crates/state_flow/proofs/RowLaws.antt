@@ -10,11 +10,11 @@ use Rattle.osek_standard.proofs.Members.{among_map, map_among, contained_among, 
 use Rattle.abstract_state.specs.{declared.{value.PartValue.{PartValue}, table.{PlainEntry.{PlainEntry}, TableRow.{TableRow}}}, Components.{IsAllowed}}
 use Rattle.abstract_state.specs.{Tables.{Sets, IsContained, IsProper, set_at, is_member}, Written.{IsRow, IsWritten}}
 use Rattle.abstract_state.proofs.{OrderLaws.{part_right, part_laws}, EqualityLaws.{written_entry, written_value}}
-use Rattle.state_flow.specs.{declared.cells.Cell.{Cell}, Cells.{cell_number, AreInOrder}}
+use Rattle.state_flow.specs.{declared.cells.Cell.{Cell}, Cells.{cell_number, AreCellsInOrder}}
 use Rattle.point_exits.specs.Rows.{IsRowIn}
 use Rattle.point_exits.proofs.ProperRows.{set_known}
 use Rattle.state_flow.specs.{Rows.{row_of, table_of, sets_in}, Progress.{AreProperCells}}
-use Rattle.state_flow.proofs.CellLists.{same_cell}
+use Rattle.table_rows.proofs.OrderLaws.{same_by}
 
 -- the cell of a row
 pub record CellOf (cells : List (Cell PlainEntry)) (p : Point) : Type 0 where
@@ -64,10 +64,10 @@ module _ (cells : List (Cell PlainEntry)) where
   cell_in cell h = record { entry = cell_entry cell h; has = λ c v m. cell_value cell c v h m }
 
   -- what the table has at a cell's point, the cell has
-  pub only_there : (cell : Cell PlainEntry) (c : ℕ) (v : PartValue) → AreInOrder cells → Contains cells cell → IsTrue ((sets_in cells).has cell.point c v) → IsTrue (is_member (set_at cell.entry c) v)
+  pub only_there : (cell : Cell PlainEntry) (c : ℕ) (v : PartValue) → AreCellsInOrder cells → Contains cells cell → IsTrue ((sets_in cells).has cell.point c v) → IsTrue (is_member (set_at cell.entry c) v)
   only_there cell c v order h m =
       let x = value_cell cell.point c v m in
-      let same : x.cell ≡ cell = same_cell cells x.cell cell order x.among h (ap point_number x.at) in
+      let same : x.cell ≡ cell = same_by cell_number cells order.ascend x.cell cell x.among h (ap point_number x.at) in
       subst (λ (y : Cell PlainEntry). IsTrue (is_member (set_at y.entry c) v)) same x.member
 
   -- a table that has each cell's row contains that of the cells
@@ -96,11 +96,11 @@ number_at cells k lt =
     get_or-map (λ (row : TableRow). point_number row.point) (map row_of cells) k (row_of no_cell) 0 (omega (arith, lt, long))
     ∙ ap (λ (row : TableRow). point_number row.point) (get_or-map row_of cells k no_cell (row_of no_cell) lt)
 
-pub numbers_ascend : (cells : List (Cell PlainEntry)) → AreInOrder cells → IsStrictlySortedBy nat_cmp (numbers cells)
+pub numbers_ascend : (cells : List (Cell PlainEntry)) → AreCellsInOrder cells → IsStrictlySortedBy nat_cmp (numbers cells)
 numbers_ascend cells order = sorted_from_strictly_increasing (numbers cells) (λ k lt.
     let long = numbers_long cells in
     let further : k + 1 < length cells = omega (arith, lt, long) in
-    omega (arith, number_at cells k (omega (arith, further)), number_at cells (k + 1) further, order.before k (k + 1) no_cell (omega arith) further))
+    omega (arith, number_at cells k (omega (arith, further)), number_at cells (k + 1) further, order.ascend.before k (k + 1) no_cell (omega arith) further))
 
 module _ (app : App) (cells : List (Cell PlainEntry)) (proper_cells : AreProperCells app cells) where
   pub proper_table : IsProper app (sets_in cells)

@@ -1,6 +1,7 @@
 -- Points that were reached, with what is known of each, in the order of the points.
 use Rattle.std.specs.Prelude.{◌≡◌, ◌⊎◌, ℕ, ◌+◌, ◌<◌, ◌≤◌, true, false, Some, List, length, slice_index_or, sum_by, if◌then◌else◌, Contains}
 use Rattle.osek_standard.specs.{declared.point.Point.{Point}, Points.{point_number}}
+use Rattle.table_rows.specs.Order.{AscendBy}
 use Rattle.state_flow.specs.declared.cells.Cell.{Cell}
 
 module _ {E : Type 0} where
@@ -8,26 +9,9 @@ module _ {E : Type 0} where
   cell_number cell = point_number cell.point
 
   -- in the order of their points, none twice, and each tells its point's number
-  pub record AreInOrder (cells : List (Cell E)) : Type 0 where
+  pub record AreCellsInOrder (cells : List (Cell E)) : Type 0 where
     pub told : (k : ℕ) (d : Cell E) → k < length cells → (slice_index_or cells k d).number ≡ cell_number (slice_index_or cells k d)
-    pub before : (i j : ℕ) (d : Cell E) → i < j → j < length cells → cell_number (slice_index_or cells i d) < cell_number (slice_index_or cells j d)
-
-  -- a cell with this number stands there
-  pub record IsPlaceOf (cells : List (Cell E)) (number place : ℕ) : Type 0 where
-    pub known : place < length cells
-    pub is : (d : Cell E) → cell_number (slice_index_or cells place d) ≡ number
-
-  -- no cell has this number, and one that has it belongs there
-  pub record IsGapFor (cells : List (Cell E)) (number gap : ℕ) : Type 0 where
-    pub known : gap ≤ length cells
-    pub below : (k : ℕ) (d : Cell E) → k < gap → cell_number (slice_index_or cells k d) < number
-    pub above : (k : ℕ) (d : Cell E) → gap ≤ k → k < length cells → number < cell_number (slice_index_or cells k d)
-
-  -- the cells below the place have numbers up to this one, and the others have higher ones
-  pub record IsBehind (cells : List (Cell E)) (number place : ℕ) : Type 0 where
-    pub known : place ≤ length cells
-    pub below : (k : ℕ) (d : Cell E) → k < place → cell_number (slice_index_or cells k d) ≤ number
-    pub above : (k : ℕ) (d : Cell E) → place ≤ k → k < length cells → number < cell_number (slice_index_or cells k d)
+    pub ascend : AscendBy cell_number cells
 
   pub record IsWaitingAt (cells : List (Cell E)) (place : ℕ) : Type 0 where
     pub known : place < length cells
@@ -115,7 +99,7 @@ module _ {E : Type 0} (IsElement : E → Type 0) (AreAlike IsLower : E → E →
   -- The entry was joined to the cell of its point, or stands in a new one; the other cells stay. What a point was evaluated
   -- with it was evaluated with before, and no more cells are to be evaluated than cells and values came in.
   pub record IsJoined (cells : List (Cell E)) (point : Point) (entry : E) (after : List (Cell E)) : Type 0 where
-    pub order : AreInOrder after
+    pub order : AreCellsInOrder after
     pub evaluated : (cell : Cell E) → Contains after cell → (e : E) → WasEvaluatedWith cell e → HasEvaluated cells cell.point e
     pub grows : (cell : Cell E) → Contains cells cell → HasAbove IsLower after cell.point cell.entry
     pub joins : HasAbove IsLower after point entry

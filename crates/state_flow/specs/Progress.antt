@@ -4,13 +4,13 @@ use Rattle.osek_values.specs.declared.{event.Event.{Event}, numbers.ModeNo.{Mode
 use Rattle.osek_standard.specs.{declared.{app.App.{App}, state.State.{State}, point.Point.{Point}}, Kernel.{start, step}}
 use Rattle.abstract_state.specs.{declared.table.{PlainEntry.{PlainEntry}, TableRow.{TableRow}}, Tables.{Sets, In, Inductive, IsContained, entry_values}}
 use Rattle.flow_model.specs.Effects.{IsAt}
-use Rattle.state_flow.specs.{declared.cells.Cell.{Cell}, Cells.{AreInOrder, WasEvaluatedWith, HasEvaluated, waiting_count, ranks}}
+use Rattle.state_flow.specs.{declared.cells.Cell.{Cell}, Cells.{AreCellsInOrder, WasEvaluatedWith, HasEvaluated, waiting_count, ranks}}
 use Rattle.point_exits.specs.Rows.{IsProperRow, IsRowIn}
 use Rattle.state_flow.specs.Rows.{row_of, sets_in}
 
 -- The cells stand in order, each for a proper row.
 pub record AreProperCells (app : App) (cells : List (Cell PlainEntry)) : Type 0 where
-  pub order : AreInOrder cells
+  pub order : AreCellsInOrder cells
   pub each : (cell : Cell PlainEntry) → Contains cells cell → IsProperRow app (row_of cell)
 
 -- Each step of a state of the entry at the point leads into the table.

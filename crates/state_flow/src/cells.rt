@@ -1,13 +1,13 @@
 //! Points that were reached, with what is known of each, in the order of the points.
-ghost use Rattle.std.specs.Prelude.{◌≡◌, ◌≤◌, IfOk, IfErr, OnOk, IfSome, IfNone};
-ghost use Rattle.state_flow.specs.Cells.{AreInOrder, IsPlaceOf, IsGapFor, IsBehind, NoneWaitsFrom, IsFirstWaiting, IsNextWaiting, MayJoin, IsJoined};
-ghost use Rattle.osek_standard.specs.Points.{point_number};
+ghost use Rattle.std.specs.Prelude.{◌≡◌, OnOk, IfSome, IfNone};
+ghost use Rattle.state_flow.specs.Cells.{AreCellsInOrder, NoneWaitsFrom, IsFirstWaiting, IsNextWaiting, MayJoin, IsJoined};
 
 use crate::kept::Kept;
 use crate::lattice::Lattice;
 use osek_standard::Point;
 use osek_values::Memory;
 use std::alloc::Global;
+use table_rows::{Keyed, place_of};
 
 /// A point that was reached, and what the states there can be like.
 #[derive(Drop)]
@@ -41,28 +41,12 @@ impl<E: Lattice> Cell<E> {
     }
 }
 
-/// The place of a point's cell, or the one where it belongs.
-fn place_of<E>(cells: &[Cell<E>], point: Point) -> Result<usize, usize>
-    requires { AreInOrder cells.now }
-    ensures place { IfOk result (IsPlaceOf cells.now (point_number point)) }
-    ensures gap { IfErr result (IsGapFor cells.now (point_number point)) }
-{
-    let number = point.number();
-    let place = cells.partition_point(|cell| cell.number < number);
-    if place < cells.len() && cells[place].number == number {
-        Ok(place)
-    } else {
-        Err(place)
-    }
-}
+impl<E> Keyed for Cell<E> {
+    ghost key = { λ cell. cell.number };
 
-/// The first place behind a point's.
-pub fn place_behind<E>(cells: &[Cell<E>], point: Point) -> usize
-    requires { AreInOrder cells.now }
-    ensures { IsBehind cells.now (point_number point) result }
-{
-    let number = point.number();
-    cells.partition_point(|cell| cell.number <= number)
+    fn key(&self) -> u32 {
+        self.number
+    }
 }
 
 fn waiting_from<E>(cells: &[Cell<E>], from: usize) -> Option<usize>
@@ -95,11 +79,11 @@ pub fn join<E: Lattice + Drop>(
     point: Point,
     entry: &E,
 ) -> Result<(), Memory>
-    requires order { AreInOrder cells.old.items }
+    requires order { AreCellsInOrder cells.old.items }
     requires may { MayJoin E.is_element E.alike cells.old.items point entry.now }
     ensures { OnOk result (IsJoined E.is_element E.alike E.is_below E.rank cells.old.items point entry.now cells.new.items) }
 {
-    match place_of(cells.as_slice(), point) {
+    match place_of(cells.as_slice(), point.number()) {
         Ok(place) => cells[place].raise(entry)?,
         Err(gap) => {
             let copy = entry.copy(alloc)?;

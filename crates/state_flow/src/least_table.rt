@@ -6,7 +6,7 @@ ghost use Rattle.numbered_sets.specs.Pools.{pool_domains, IsLonger};
 ghost use Rattle.point_exits.specs.Levels.{AreLevels};
 ghost use Rattle.state_flow.specs.{Cells.{IsWaitingAt}, Progress.{Progress}, PlainCells.{plain_cells, AreCellsOf}, Numbering.{AreNumberedCells, HasProgress}};
 
-use crate::cells::{Cell, next_waiting, place_behind};
+use crate::cells::{Cell, next_waiting};
 use crate::evaluation::turn;
 use crate::numbered_cells::{put_in, rows};
 use abstract_state::{Domain, LiveVal, PartValue, PlainEntry, Val, masks_are_few};
@@ -16,6 +16,7 @@ use osek_values::{BlockNo, Held, Memory, ModeNo, Steps};
 use point_exits::{Levels, start_row};
 use std::alloc::Global;
 use std::sync::ledger::Ledger;
+use table_rows::place_behind;
 
 /// The least table: the starts are in it, each step from a state in it leads to one in it, and every such table contains
 /// it. A step is counted for each evaluation of a point.
@@ -38,7 +39,7 @@ pub fn solve<L: Ledger>(alloc: Global, app: &App, steps: &mut Steps<L>) -> Resul
         steps.tick();
         let point = cells[place].point;
         turn(alloc, app, &mut pool, &mut levels, &mut cells, place)?;
-        from = place_behind(cells.as_slice(), point);
+        from = place_behind(cells.as_slice(), point.number());
     }
     let rows = rows(alloc, cells)?;
     Ok(Table::of(pool, rows))

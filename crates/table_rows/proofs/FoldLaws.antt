@@ -9,8 +9,9 @@ use Rattle.point_exits.specs.{declared.group.ExitGroup.{ExitGroup}, Groups.{all_
 use Rattle.table_rows.specs.{Folds.{IsNextRow}, Rows.{AreExitsOf}}
 use Rattle.table_rows.proofs.TableRows.{row_proper}
 
-module _ (app : App) (table : PlainTable) (written : IsWritten app table) (first : List Values) (rows : List NumberedRow) (are : AreRowsFor table.rows first rows)
-    (pool : List Values) (longer : IsLonger first pool) (i : ℕ) (row : NumberedRow) (lt : i < length rows) (is : row ≡ get_or rows i row) where
+module _ (app : App) (table : PlainTable) (written : IsWritten app table) (first : List Values) (rows : List NumberedRow)
+    (are : AreRowsFor table.rows first rows) (pool : List Values) (longer : IsLonger first pool)
+    (i : ℕ) (row : NumberedRow) (lt : i < length rows) (is : row ≡ get_or rows i row) where
   there : i < length table.rows
   there = omega (arith, lt, as_many table.rows first rows are)
 
@@ -23,12 +24,14 @@ module _ (app : App) (table : PlainTable) (written : IsWritten app table) (first
   pub row_taken : take i table.rows ++ plain_row pool row ∷ [] ≡ take (i + 1) table.rows
   row_taken = ap (λ (x : TableRow). take i table.rows ++ x ∷ []) same_row ∙ sym (take_more table.rows i (plain_row pool row) there)
 
-  pub next_row : (after : List Values) (groups : List ExitGroup) → AreExitsOf app (plain_row pool row) (all_exits after groups) → IsNextRow app (take i table.rows) (plain_row pool row) groups
+  pub next_row : (after : List Values) (groups : List ExitGroup) → AreExitsOf app (plain_row pool row) (all_exits after groups)
+      → IsNextRow app (take i table.rows) (plain_row pool row) groups
   next_row after groups exits = record {
     above = λ x h.
         (let low : h.0 < i = omega (arith, h.1, length-take i table.rows) in
         let its = plain_row pool row in
-        let at : get_or table.rows h.0 its ≡ x = get_or_default table.rows h.0 its x (omega (arith, low, there)) ∙ sym (get_or-take i table.rows h.0 x low) ∙ h.2 in
+        let at : get_or table.rows h.0 its ≡ x =
+        get_or_default table.rows h.0 its x (omega (arith, low, there)) ∙ sym (get_or-take i table.rows h.0 x low) ∙ h.2 in
         omega (arith, rows_ascend app table written h.0 i its low there, ap row_number at, ap row_number same_row));
     pool = after;
     exits = exits;

@@ -2,8 +2,9 @@ use Rattle.std.proofs.Common.{◌∙◌, ◌+◌, ◌*◌, ◌<◌, ◌≤◌, L
 use Rattle.osek_standard.specs.Counts.{points, height}
 use Rattle.abstract_state.specs.{declared.table.PlainTable.{PlainTable}, Tables.{Least, sets_of, value_count}, Written.{IsWritten}}
 use Rattle.numbered_sets.specs.{declared.numbered_entry.NumberedEntry.{NumberedEntry}}
-use Rattle.state_flow.specs.{declared.cells.Cell.{Cell}, Cells.{AreInOrder, IsWaitingAt, IsNextWaiting, NoneWaitsFrom}, Rows.{table_of}}
-use Rattle.state_flow.proofs.{CellLists.{next_waits}, RowLaws.{written}, Closing.{least_at_end}, Bounds.{room, values_few, rows_evaluated, evaluations_few}}
+use Rattle.table_rows.specs.Order.{AscendBy}
+use Rattle.state_flow.specs.{declared.cells.Cell.{Cell}, Cells.{IsWaitingAt, IsNextWaiting, NoneWaitsFrom}, Rows.{table_of}}
+use Rattle.state_flow.proofs.{CellLists.{by_told, next_waits}, RowLaws.{written}, Closing.{least_at_end}, Bounds.{room, values_few, rows_evaluated, evaluations_few}}
 use Rattle.state_flow.specs.PlainCells.{plain_cells}
 use Rattle.state_flow.proofs.{NumberedCells.{numbered_order, waits_plain, none_waits_plain, tasks_few}, CellRows.{rows_known, table_alike}}
 use Rattle.state_flow.proofs.least_table.solve.Goals as goal
@@ -20,7 +21,8 @@ loop-place-init g c = (0, omega arith, c.in_ok-cells.ensures.progress, c.in_ok-l
 pub place_behind-from-requires : goal.place_behind-from-requires
 place_behind-from-requires g c =
     let turned = c.in_ok-turn.ensures.progress c.loop-place.invariant.0 c.loop-place.invariant.2 in
-    subst (λ (xs : List (Cell NumberedEntry)). AreInOrder xs) (sym c.as_slice-in-Some.ensures.value) (numbered_order c.turn.new.pool c.turn.new.cells.items turned.progress.cells_proper.order)
+    subst (AscendBy (λ (cell : Cell NumberedEntry). cell.number)) (sym c.as_slice-in-Some.ensures.value)
+    (by_told c.turn.new.cells.items (numbered_order c.turn.new.pool c.turn.new.cells.items turned.progress.cells_proper.order))
 
 pub loop-place-smaller : goal.loop-place-smaller
 loop-place-smaller g c =

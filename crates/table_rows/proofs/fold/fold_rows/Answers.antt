@@ -11,13 +11,15 @@ use Rattle.table_rows.proofs.fold.fold_rows.Goals as goal
 pub returns-then-len-eq0 : goal.returns-then-len-eq0
 returns-then-len-eq0 g c =
     let rows = c.args.table.now.rows in
-    let none : length rows ≡ 0 = omega (arith, as_many rows c.in_ok-numbered.numbered.pool c.in_ok-numbered.numbered.rows.now c.in_ok-numbered.ensures, c.if-len-eq0.true, c.len.ensures) in
+    let n = c.in_ok-numbered.numbered in
+    let none : length rows ≡ 0 = omega (arith, as_many rows n.pool n.rows.now c.in_ok-numbered.ensures, c.if-len-eq0.true, c.len.ensures) in
     subst (λ (done : List TableRow). g.F.RowFold.is_of c.args.app.now done c.args.made.now) (sym (nil_from_length rows none)) c.requires.begun
 
 pub new-requires : goal.new-requires
 new-requires g c =
     let n = c.in_ok-numbered.numbered in
-    pool_has_tasks c.args.app.now c.args.table.now c.requires.written n.pool n.rows.now c.in_ok-numbered.ensures (omega (arith, c.if-len-eq0.false, c.len.ensures))
+    pool_has_tasks c.args.app.now c.args.table.now c.requires.written n.pool n.rows.now c.in_ok-numbered.ensures
+    (omega (arith, c.if-len-eq0.false, c.len.ensures))
 
 pub loop-row-init : goal.loop-row-init
 loop-row-init g c = record {
@@ -30,8 +32,8 @@ loop-row-init g c = record {
 pub asks_for-requires-clause-point : goal.asks_for-requires-clause-point
 asks_for-requires-clause-point g c =
     let l = c.loop-row.invariant in
-    (proper_row c.args.app.now c.args.table.now c.requires.written c.in_ok-numbered.numbered.pool c.as_slice-row-items.result.now l.rows c.loop-row.pool l.longer
-    c.loop-row.row-index c.row-item.result c.loop-row-test.true c.row-item.is).row.point
+    (proper_row c.args.app.now c.args.table.now c.requires.written c.in_ok-numbered.numbered.pool c.as_slice-row-items.result.now l.rows
+    c.loop-row.pool l.longer c.loop-row.row-index c.row-item.result c.loop-row-test.true c.row-item.is).row.point
 
 pub loop-row-preserved-then-not-asks_for : goal.loop-row-preserved-then-not-asks_for
 loop-row-preserved-then-not-asks_for g c =
@@ -39,13 +41,16 @@ loop-row-preserved-then-not-asks_for g c =
     let rows = c.args.table.now.rows in
     let i = c.loop-row.row-index in
     let row = plain_row c.loop-row.pool c.row-item.result in
-    let taken = row_taken c.args.app.now c.args.table.now c.requires.written c.in_ok-numbered.numbered.pool c.as_slice-row-items.result.now l.rows c.loop-row.pool l.longer
-    i c.row-item.result c.loop-row-test.true c.row-item.is in
+    let taken =
+    row_taken c.args.app.now c.args.table.now c.requires.written c.in_ok-numbered.numbered.pool c.as_slice-row-items.result.now l.rows
+    c.loop-row.pool l.longer i c.row-item.result c.loop-row-test.true c.row-item.is in
     record {
       rows = l.rows;
       longer = l.longer;
       levels = l.levels;
-      made = subst (λ (done : List TableRow). g.F.RowFold.is_of c.args.app.now done c.loop-row.made) taken (OnFalse_at c.if-not-asks_for.true c.asks_for.ensures (take i rows) row refl l.made);
+      made =
+          subst (λ (done : List TableRow). g.F.RowFold.is_of c.args.app.now done c.loop-row.made) taken
+          (OnFalse_at c.if-not-asks_for.true c.asks_for.ensures (take i rows) row refl l.made);
     }
 
 pub row_groups-requires-clause-numbers : goal.row_groups-requires-clause-numbers
@@ -57,14 +62,14 @@ row_groups-requires-clause-numbers g c =
 pub row_groups-requires-clause-proper : goal.row_groups-requires-clause-proper
 row_groups-requires-clause-proper g c =
     let l = c.loop-row.invariant in
-    proper_row c.args.app.now c.args.table.now c.requires.written c.in_ok-numbered.numbered.pool c.as_slice-row-items.result.now l.rows c.loop-row.pool l.longer
-    c.loop-row.row-index c.row-item.result c.loop-row-test.true c.row-item.is
+    proper_row c.args.app.now c.args.table.now c.requires.written c.in_ok-numbered.numbered.pool c.as_slice-row-items.result.now l.rows
+    c.loop-row.pool l.longer c.loop-row.row-index c.row-item.result c.loop-row-test.true c.row-item.is
 
 pub add-requires-clause-point : goal.add-requires-clause-point
 add-requires-clause-point g c =
     let l = c.loop-row.invariant in
-    (proper_row c.args.app.now c.args.table.now c.requires.written c.in_ok-numbered.numbered.pool c.as_slice-row-items.result.now l.rows c.loop-row.pool l.longer
-    c.loop-row.row-index c.row-item.result c.loop-row-test.true c.row-item.is).row.point
+    (proper_row c.args.app.now c.args.table.now c.requires.written c.in_ok-numbered.numbered.pool c.as_slice-row-items.result.now l.rows
+    c.loop-row.pool l.longer c.loop-row.row-index c.row-item.result c.loop-row-test.true c.row-item.is).row.point
 
 pub loop-row-preserved : goal.loop-row-preserved
 loop-row-preserved g c =
@@ -78,14 +83,18 @@ loop-row-preserved g c =
     let row = c.row-item.result in
     let lt = c.loop-row-test.true in
     let takes =
-    subst (λ (gs : List ExitGroup). TakesIn app (g.F.RowFold.is_of app) row.point gs c.loop-row.made c.add.new.self) c.as_slice.ensures.value c.in_ok-add.ensures in
-    let next = next_row app table c.requires.written first numbered l.rows pool l.longer i row lt c.row-item.is c.row_groups.new.pool c.in_ok-groups.groups.items c.in_ok-groups.ensures.exits in
+    subst (λ (gs : List ExitGroup). TakesIn app (g.F.RowFold.is_of app) row.point gs c.loop-row.made c.add.new.self)
+    c.as_slice.ensures.value c.in_ok-add.ensures in
+    let next =
+    next_row app table c.requires.written first numbered l.rows pool l.longer i row lt c.row-item.is c.row_groups.new.pool
+    c.in_ok-groups.groups.items c.in_ok-groups.ensures.exits in
     record {
       rows = l.rows;
       longer = longer_onward first pool c.row_groups.new.pool l.longer c.row_groups.ensures.pool;
       levels = c.in_ok-groups.ensures.levels;
       made =
-          subst (λ (done : List TableRow). g.F.RowFold.is_of app done c.add.new.self) (row_taken app table c.requires.written first numbered l.rows pool l.longer i row lt c.row-item.is)
+          subst (λ (done : List TableRow). g.F.RowFold.is_of app done c.add.new.self)
+          (row_taken app table c.requires.written first numbered l.rows pool l.longer i row lt c.row-item.is)
           (takes (take i table.rows) (plain_row pool row) refl next l.made);
     }
 
