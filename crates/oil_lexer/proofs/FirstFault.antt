@@ -148,6 +148,9 @@ module _ (Tree : Type 0) (IsSentence : List Token → Tree → Type 0) (limit : 
       let answer : Answers tokens (Some Ends) = subst (Answers tokens) e (first_fault tokens) in
       record { clear = answer.0; no_sentence = answer.1; line_is = refl }
 
+  pub has_tree : (tokens : List Token) (tree : Tree) → IsSentence tokens tree → scan 0 start tokens ≡ None → faults.HasTree Tree IsSentence limit tokens tree
+  has_tree tokens tree is e = record { sentence = is; clear = subst (Answers tokens) e (first_fault tokens) }
+
   -- where reading doesn't stop, nothing is expected behind the tokens
   token_run : (t : Token) (ts : List Token) (d : ℕ) (next : Option (List Phrase)) → ((n : List Phrase) → scan (deeper d t.kind) n ts ≡ None → Run n ts ≡ Some []) → at_token d t next (λ n. scan (deeper d t.kind) n ts) ≡ None → option_and_then (λ n. Run n ts) next ≡ Some []
   token_run t ts d None go e = absurd cc
@@ -169,5 +172,5 @@ module _ (Tree : Type 0) (IsSentence : List Token → Tree → Type 0) (limit : 
       by_scan : (stop : Option Stop) → scan 0 start tokens ≡ stop → ((tree : Tree) × faults.HasTree Tree IsSentence limit tokens tree) ⊎ ((fault : LineFault SyntaxRule) × faults.IsFirstFault Tree IsSentence limit tokens fault.rule fault.line)
       by_scan None e =
           let (tree, is) = right tokens (scan_run tokens 0 start e) in
-          inl (tree, record { sentence = is; clear = subst (Answers tokens) e (first_fault tokens) })
+          inl (tree, has_tree tokens tree is e)
       by_scan (Some stop) e = inr (fault_of stop tokens, stop_fault tokens stop e)

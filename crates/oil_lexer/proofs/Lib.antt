@@ -1,5 +1,6 @@
 pub mod Braces
 pub mod FirstFault
+pub mod PhraseStacks
 pub mod OneFault
 pub mod Splits
 pub mod AheadSteps

@@ -1,5 +1,5 @@
 -- What may still come behind tokens, as a stack of phrases, and the place where reading stops.
-use Rattle.std.specs.Prelude.{ℕ, List, [], ◌∷◌, nat_le, ◌&&◌, if◌then◌else◌, Option, Some, None, option_and_then}
+use Rattle.std.specs.Prelude.{ℕ, List, [], ◌∷◌, ◌++◌, nat_le, ◌&&◌, if◌then◌else◌, Option, Some, None, option_and_then}
 use Rattle.osek_values.specs.declared.refusal.SyntaxRule.{SyntaxRule, TheVariants.{S1, S2, S3}}
 use Rattle.oil_lexer.specs.declared.{token.{TokenKind.{TokenKind}, Token.{Token}}, fault.Stop.{Stop, TheVariants.{NotAllowed, TooDeep, Ends}}}
 use Rattle.osek_values.specs.declared.refused.LineFault.{LineFault}
@@ -10,7 +10,19 @@ abbrev pub at_end : {Phrase : Type 0} → List Phrase → Option Stop
 at_end [] = None
 at_end (_ ∷ _) = Some Ends
 
--- A grammar says what is expected behind a token, if the token is allowed.
+-- what is left of a phrase is expected first
+abbrev pub onto : {Phrase : Type 0} → List Phrase → Option (List Phrase) → Option (List Phrase)
+onto stack None = None
+onto stack (Some phrases) = Some (phrases ++ stack)
+
+-- A grammar says what is left of a phrase behind its first token, and what a token begins where nothing is expected.
+module _ (Phrase : Type 0) (step : Phrase → TokenKind → Option (List Phrase)) (begin : TokenKind → Option (List Phrase)) where
+  -- what is expected behind a token, if it is allowed
+  abbrev pub step_all : List Phrase → TokenKind → Option (List Phrase)
+  step_all [] kind = onto [] (begin kind)
+  step_all (phrase ∷ stack) kind = onto stack (step phrase kind)
+
+-- So it says what is expected behind tokens, and where reading stops.
 module _ (Phrase : Type 0) (step_all : List Phrase → TokenKind → Option (List Phrase)) where
   -- what is expected behind the tokens, if they are allowed
   abbrev pub run : List Phrase → List Token → Option (List Phrase)

@@ -7,7 +7,7 @@ use Rattle.oil_lexer.specs.{declared.fault.Stop.{Stop}, Tokens.{name, text, mark
 use Rattle.oil_tree.specs.{Words.{word_of}, Grammar.{IsEnd, IsCpu, cpu, IsUnversioned, no_impl, impl, IsFile, no_version, version}}
 use Rattle.oil_lexer.specs.Scan as scans
 use Rattle.osek_values.specs.declared.limits.TheConstants.{MAX_OIL_DEPTH}
-use Rattle.oil_tree.specs.Expect.{Phrase, a_file, an_unversioned, a_cpu, Stack, step_all, scan, onto, cpu_word, unversioned_word, file_word}
+use Rattle.oil_tree.specs.Expect.{Phrase, a_file, an_unversioned, a_cpu, Stack, step_all, scan, cpu_word, unversioned_word, file_word}
 use Rattle.oil_tree.specs.Phrases.{ReadsObjects, ReadsBalanced, ReadsVersion, ReadsImpl, ReadsCpu}
 use Rattle.oil_tree.proofs.Ends.{takes_end}
 
@@ -21,7 +21,7 @@ version_or_not Other h = refl
 
 -- the scan behind a first word
 abbrev behind : Stack → ℕ → List Token → Option Stack → Option Stop
-behind stack l ts phrases = scans.at_token Phrase step_all MAX_OIL_DEPTH 0 (name [] l) (onto stack phrases) (λ next. scan 0 next ts)
+behind stack l ts phrases = scans.at_token Phrase step_all MAX_OIL_DEPTH 0 (name [] l) (scans.onto stack phrases) (λ next. scan 0 next ts)
 
 pub reads_no_version : (n : List ℕ) (l : ℕ) (w : Word) (tokens ts : List Token) → tokens ≡ name n l ∷ ts → word_of n ≡ w → (w ≡ Version → ⊥) → ReadsVersion tokens tokens
 reads_no_version n l w tokens ts e is differs = record {

@@ -1,6 +1,6 @@
 -- A list of tokens is a prefix of a sentence exactly where the stack of expectations takes it.
-use Rattle.std.proofs.Common.{◌≡◌, ◌⊎◌, ℕ, false, List, [], ◌∷◌, ◌++◌, refl, sym, ap, ◌∙◌, subst}
-use Rattle.std.specs.Prelude.{Option, Some, None, option_and_then, codes}
+use Rattle.std.proofs.Common.{◌≡◌, ◌⊎◌, ℕ, false, List, [], ◌∷◌, refl, sym, ap, ◌∙◌, subst}
+use Rattle.std.specs.Prelude.{Option, Some, None, codes}
 use Rattle.oil_lexer.specs.declared.token.{TokenKind.{TokenKind, TheVariants.{Name, Number, Text, Mark}}, Mark.TheVariants.{OpenBrace, CloseBrace, Equals, Semicolon, Colon, Plus, Minus}, Token.{Token}}
 use Rattle.oil_tree.specs.declared.words.Word.{Word as Keyword, TheVariants.{Version, Implementation, Cpu, Other}}
 use Rattle.oil_tree.specs.declared.tree.{Value.{Value, TheVariants.{Word, Quoted, Numeric}}, Sign.{Sign}, Object.{Object}, Tree.{Tree}}
@@ -9,11 +9,12 @@ use Rattle.oil_tree.specs.Attrs.{Attrs, no_attrs, attr_then}
 use Rattle.oil_lexer.specs.Tokens.{is_open, name, number, text, mark, is_close}
 use Rattle.oil_tree.specs.Words.{word_of}
 use Rattle.oil_tree.specs.Grammar.{IsValue, is_name, is_text, is_number, is_plus, is_minus, IsEnd, plain, described, IsAttrs, no_more, one_more, IsBody, bare, nested, IsObjects, no_objects, one_object, IsBalanced, closed, braces, other, IsCpu, cpu, IsUnversioned, no_impl, impl, IsFile, no_version, version, IsSentence}
-use Rattle.oil_tree.specs.Expect.{Phrase, a_file, an_unversioned, a_cpu, some_objects, some_attrs, some_balanced, a_body, an_end, a_value, a_name, a_text, a_number, an_equals, an_open, a_semicolon, Stack, step, step_all, onto, run, cpu_word, unversioned_word, file_word, scan}
+use Rattle.oil_tree.specs.Expect.{Phrase, a_file, an_unversioned, a_cpu, some_objects, some_attrs, some_balanced, a_body, an_end, a_value, a_name, a_text, a_number, an_equals, an_open, a_semicolon, Stack, step, step_all, behind_file, run, cpu_word, unversioned_word, file_word, scan}
 use Rattle.oil_lexer.specs.declared.fault.Stop.{Stop}
 use Rattle.osek_values.specs.declared.{refused.LineFault.{LineFault}, refusal.SyntaxRule.{SyntaxRule}}
 use Rattle.oil_lexer.specs.Scan.{fault_of}
 use Rattle.oil_lexer.proofs.FirstFault as first
+use Rattle.oil_lexer.proofs.PhraseStacks as stacks
 use Rattle.osek_values.specs.declared.limits.TheConstants.{MAX_OIL_DEPTH}
 use Rattle.oil_tree.specs.Faults.{IsFirstFault, HasTree}
 
@@ -47,6 +48,10 @@ run_objects : {objects : List Object} {ts rest : List Token} → IsObjects objec
 run_objects no_objects stack = refl
 run_objects (one_object b more) stack = run_body b _ ∙ run_objects more stack
 
+-- the run behind a first token
+abbrev behind : Stack → List Token → Option Stack → Option Stack
+behind = stacks.behind Phrase step behind_file
+
 step_other : (kind : TokenKind) → is_open kind ≡ false → is_close kind ≡ false → step some_balanced kind ≡ Some (some_balanced ∷ [])
 step_other (Name n) o c = refl
 step_other (Number n) o c = refl
@@ -58,11 +63,7 @@ step_other (Mark _) o c = refl
 run_balanced : {ts rest : List Token} → IsBalanced ts rest → (stack : Stack) → run (some_balanced ∷ stack) ts ≡ run stack rest
 run_balanced closed stack = refl
 run_balanced (braces a b) stack = run_balanced a _ ∙ run_balanced b stack
-run_balanced (other {t} {a} {rest} o c more) stack = ap (λ e. option_and_then (λ next. run next a) (onto stack e)) (step_other t.kind o c) ∙ run_balanced more stack
-
--- the run behind a first token
-abbrev behind : Stack → List Token → Option Stack → Option Stack
-behind stack ts phrases = option_and_then (λ next. run next ts) (onto stack phrases)
+run_balanced (other {t} {a} {rest} o c more) stack = ap (behind stack a) (step_other t.kind o c) ∙ run_balanced more stack
 
 run_cpu_word : {file : Tree} {ts rest : List Token} → IsCpu file ts rest → (stack : Stack) (p : Phrase) → ((n : List ℕ) → word_of n ≡ Cpu → step p (Name n) ≡ cpu_word Cpu) → run (p ∷ stack) ts ≡ run stack rest
 run_cpu_word (cpu {w} {n} {l} {l'} {l''} {objects} {a} {b} {rest} e objs end) stack p takes =
@@ -104,47 +105,52 @@ IsPhrase an_equals ts rest = (l : ℕ) × (ts ≡ mark Equals l ∷ rest)
 IsPhrase an_open ts rest = (l : ℕ) × (ts ≡ mark OpenBrace l ∷ rest)
 IsPhrase a_semicolon ts rest = (l : ℕ) × (ts ≡ mark Semicolon l ∷ rest)
 
+-- behind a file nothing comes
+abbrev IsNothing : List Token → Type 0
+IsNothing ts = ts ≡ []
+
+-- the tokens are the stack's phrases
 abbrev ArePhrases : Stack → List Token → Type 0
-ArePhrases [] ts = ts ≡ []
-ArePhrases (p ∷ stack) ts = (rest : List Token) × IsPhrase p ts rest × ArePhrases stack rest
+ArePhrases = stacks.ArePhrases Phrase step behind_file IsPhrase IsNothing
 
 end_text : {ts rest b : List Token} (l : ℕ) → IsPhrase a_text ts b → IsPhrase a_semicolon b rest → IsEnd (mark Colon l ∷ ts) rest
 end_text {ts} {rest} {b} l (t, l', e) (l'', e') =
     subst (λ (x : List Token). IsEnd (mark Colon l ∷ x) rest) (sym (e ∙ ap (λ (x : List Token). text t l' ∷ x) e')) described
 
-cpu_back : (n : List ℕ) (line : ℕ) (stack : Stack) (ts : List Token) → word_of n ≡ Cpu → ArePhrases (a_name ∷ (an_open ∷ (some_objects ∷ (an_end ∷ stack)))) ts → (rest : List Token) × ((file : Tree) × IsCpu file (name n line ∷ ts) rest) × ArePhrases stack rest
+cpu_back : (n : List ℕ) (line : ℕ) (stack : Stack) (ts : List Token) → word_of n ≡ Cpu → ArePhrases (a_name ∷ (an_open ∷ (some_objects ∷ (an_end ∷ stack)))) ts → ArePhrases (a_cpu ∷ stack) (name n line ∷ ts)
 cpu_back n line stack ts e (b, (m, l, e1), (c, (l', e2), (d, (objects, objs), (rest, end, more)))) =
     let parts : ts ≡ name m l ∷ (mark OpenBrace l' ∷ c) = e1 ∙ ap (λ (x : List Token). name m l ∷ x) e2 in
     (rest, (record { line = line; objects = objects }, subst (λ (x : List Token). IsCpu (record { line = line; objects = objects }) (name n line ∷ x) rest) (sym parts) (cpu e objs end)), more)
 
-impl_back : (n : List ℕ) (line : ℕ) (stack : Stack) (ts : List Token) → word_of n ≡ Implementation → ArePhrases (a_name ∷ (an_open ∷ (some_balanced ∷ (an_end ∷ (a_cpu ∷ stack))))) ts → (rest : List Token) × ((file : Tree) × IsUnversioned file (name n line ∷ ts) rest) × ArePhrases stack rest
+impl_back : (n : List ℕ) (line : ℕ) (stack : Stack) (ts : List Token) → word_of n ≡ Implementation → ArePhrases (a_name ∷ (an_open ∷ (some_balanced ∷ (an_end ∷ (a_cpu ∷ stack))))) ts → ArePhrases (an_unversioned ∷ stack) (name n line ∷ ts)
 impl_back n line stack ts e (b, (m, l, e1), (c, (l', e2), (d, balanced, (f, end, (rest, (file, c'), more))))) =
     let parts : ts ≡ name m l ∷ (mark OpenBrace l' ∷ c) = e1 ∙ ap (λ (x : List Token). name m l ∷ x) e2 in
     (rest, (file, subst (λ (x : List Token). IsUnversioned file (name n line ∷ x) rest) (sym parts) (impl e balanced end c')), more)
 
-version_back : (n : List ℕ) (line : ℕ) (stack : Stack) (ts : List Token) → word_of n ≡ Version → ArePhrases (an_equals ∷ (a_text ∷ (an_end ∷ (an_unversioned ∷ stack)))) ts → (rest : List Token) × ((file : Tree) × IsFile file (name n line ∷ ts) rest) × ArePhrases stack rest
+version_back : (n : List ℕ) (line : ℕ) (stack : Stack) (ts : List Token) → word_of n ≡ Version → ArePhrases (an_equals ∷ (a_text ∷ (an_end ∷ (an_unversioned ∷ stack)))) ts → ArePhrases (a_file ∷ stack) (name n line ∷ ts)
 version_back n line stack ts e (b, (l, e1), (c, (t, l', e2), (d, end, (rest, (file, u), more)))) =
     let parts : ts ≡ mark Equals l ∷ (text t l' ∷ c) = e1 ∙ ap (λ (x : List Token). mark Equals l ∷ x) e2 in
     (rest, (file, subst (λ (x : List Token). IsFile file (name n line ∷ x) rest) (sym parts) (version e end u)), more)
 
 -- the stack behind a first token, as the stack before it
-abbrev Back : Phrase → Token → Stack → List Token → Option Stack → Type 0
-Back p t stack ts None = Unit {0}
-Back p t stack ts (Some phrases) = ArePhrases (phrases ++ stack) ts → ArePhrases (p ∷ stack) (t ∷ ts)
+abbrev Back : Stack → Token → Stack → List Token → Option Stack → Type 0
+Back = stacks.Back Phrase step behind_file IsPhrase IsNothing
 
-cpu_word_back : (n : List ℕ) (line : ℕ) (stack : Stack) (ts : List Token) (w : Keyword) → word_of n ≡ w → Back a_cpu (name n line) stack ts (cpu_word w)
+cpu_word_back : (n : List ℕ) (line : ℕ) (stack : Stack) (ts : List Token) (w : Keyword)
+    → word_of n ≡ w → Back (a_cpu ∷ stack) (name n line) stack ts (cpu_word w)
 cpu_word_back n line stack ts Cpu e = cpu_back n line stack ts e
 cpu_word_back n line stack ts Version e = tt
 cpu_word_back n line stack ts Implementation e = tt
 cpu_word_back n line stack ts Other e = tt
 
-unversioned_word_back : (n : List ℕ) (line : ℕ) (stack : Stack) (ts : List Token) (w : Keyword) → word_of n ≡ w → Back an_unversioned (name n line) stack ts (unversioned_word w)
+unversioned_word_back : (n : List ℕ) (line : ℕ) (stack : Stack) (ts : List Token) (w : Keyword) → word_of n ≡ w → Back (an_unversioned ∷ stack) (name n line) stack ts (unversioned_word w)
 unversioned_word_back n line stack ts Cpu e = λ h. let (rest, (file, c), more) = cpu_back n line stack ts e h in (rest, (file, no_impl c), more)
 unversioned_word_back n line stack ts Version e = tt
 unversioned_word_back n line stack ts Implementation e = impl_back n line stack ts e
 unversioned_word_back n line stack ts Other e = tt
 
-file_word_back : (n : List ℕ) (line : ℕ) (stack : Stack) (ts : List Token) (w : Keyword) → word_of n ≡ w → Back a_file (name n line) stack ts (file_word w)
+file_word_back : (n : List ℕ) (line : ℕ) (stack : Stack) (ts : List Token) (w : Keyword)
+    → word_of n ≡ w → Back (a_file ∷ stack) (name n line) stack ts (file_word w)
 file_word_back n line stack ts Cpu e = λ h. let (rest, (file, c), more) = cpu_back n line stack ts e h in (rest, (file, no_version (no_impl c)), more)
 file_word_back n line stack ts Version e = version_back n line stack ts e
 file_word_back n line stack ts Implementation e = λ h. let (rest, (file, c), more) = impl_back n line stack ts e h in (rest, (file, no_version c), more)
@@ -162,7 +168,8 @@ object_back n line stack ts (b, (m, l, e1), (c, (attrs, body), (rest, (next, obj
 number_back : (sign : Sign) (t : Token) (ts rest : List Token) → ((v l : ℕ) → IsValue (Numeric sign v) (t ∷ (number v l ∷ rest)) rest) → IsPhrase a_number ts rest → IsPhrase a_value (t ∷ ts) rest
 number_back sign t ts rest is (v, l, e) = (Numeric sign v, subst (λ (x : List Token). IsValue (Numeric sign v) (t ∷ x) rest) (sym e) (is v l))
 
-back : (p : Phrase) (kind : TokenKind) (line : ℕ) (stack : Stack) (ts : List Token) → Back p (record { kind = kind; line = line }) stack ts (step p kind)
+back : (p : Phrase) (kind : TokenKind) (line : ℕ) (stack : Stack) (ts : List Token)
+    → Back (p ∷ stack) (record { kind = kind; line = line }) stack ts (step p kind)
 back a_file (Name n) line stack ts = file_word_back n line stack ts (word_of n) refl
 back an_unversioned (Name n) line stack ts = unversioned_word_back n line stack ts (word_of n) refl
 back a_cpu (Name n) line stack ts = cpu_word_back n line stack ts (word_of n) refl
@@ -194,16 +201,9 @@ back an_open (Mark OpenBrace) line stack ts = λ h. (ts, (line, refl), h)
 back a_semicolon (Mark Semicolon) line stack ts = λ h. (ts, (line, refl), h)
 back _ _ line stack ts = tt
 
-back_onto : (p : Phrase) (t : Token) (stack : Stack) (ts : List Token) (phrases : Option Stack) → Back p t stack ts phrases → ((next : Stack) → run next ts ≡ Some [] → ArePhrases next ts) → behind stack ts phrases ≡ Some [] → ArePhrases (p ∷ stack) (t ∷ ts)
-back_onto p t stack ts None b more e = absurd cc
-back_onto p t stack ts (Some phrases) b more e = b (more (phrases ++ stack) e)
-
 -- what the stack takes to its end is the stack's phrases
 taken : (ts : List Token) (stack : Stack) → run stack ts ≡ Some [] → ArePhrases stack ts
-taken [] [] e = refl
-taken [] (p ∷ stack) e = absurd cc
-taken (t ∷ ts) [] e = absurd cc
-taken (t ∷ ts) (p ∷ stack) e = back_onto p t stack ts (step p t.kind) (back p t.kind t.line stack ts) (λ next h. taken ts next h) e
+taken = stacks.taken Phrase step behind_file IsPhrase IsNothing back (λ kind line ts. tt) refl
 
 -- 3. Whatever the stack is, something completes it.
 
@@ -243,10 +243,7 @@ least_taken an_open stack more = refl
 least_taken a_semicolon stack more = refl
 
 completion : (stack : Stack) → (more : List Token) × (run stack more ≡ Some [])
-completion [] = ([], refl)
-completion (p ∷ stack) =
-    let (more, e) = completion stack in
-    (least p more, least_taken p stack more ∙ e)
+completion = stacks.completion Phrase step behind_file least least_taken
 
 -- 4. The scan gives the first fault.
 
@@ -262,7 +259,7 @@ pub stop_fault : (tokens : List Token) (stop : Stop) → scan 0 (a_file ∷ []) 
 stop_fault = first.stop_fault Tree IsSentence MAX_OIL_DEPTH Phrase step_all (a_file ∷ []) complete right completion
 
 pub has_tree : (tokens : List Token) (tree : Tree) → IsSentence tokens tree → scan 0 (a_file ∷ []) tokens ≡ None → HasTree tokens tree
-has_tree tokens tree is e = record { sentence = is; clear = subst (first.Answers Tree IsSentence MAX_OIL_DEPTH Phrase step_all (a_file ∷ []) complete right completion tokens) e (first.first_fault Tree IsSentence MAX_OIL_DEPTH Phrase step_all (a_file ∷ []) complete right completion tokens) }
+has_tree = first.has_tree Tree IsSentence MAX_OIL_DEPTH Phrase step_all (a_file ∷ []) complete right completion
 
 pub some_answer : (tokens : List Token) → ((tree : Tree) × HasTree tokens tree) ⊎ ((fault : LineFault SyntaxRule) × IsFirstFault tokens fault.rule fault.line)
 some_answer = first.some_answer Tree IsSentence MAX_OIL_DEPTH Phrase step_all (a_file ∷ []) complete right completion

@@ -1,5 +1,5 @@
 -- What may still come, as a stack of phrases, and what a token makes of it.
-use Rattle.std.specs.Prelude.{ℕ, List, [], ◌∷◌, ◌++◌, Option, Some, None}
+use Rattle.std.specs.Prelude.{ℕ, List, [], ◌∷◌, Option, Some, None}
 use Rattle.oil_lexer.specs.declared.token.{TokenKind.{TokenKind, TheVariants.{Name, Number, Text, Mark}}, Mark.TheVariants.{OpenBrace, CloseBrace, Equals, Semicolon, Colon, Plus, Minus}, Token.{Token}}
 use Rattle.oil_tree.specs.declared.words.Word.{Word, TheVariants.{Version, Implementation, Cpu, Other}}
 use Rattle.oil_lexer.specs.declared.fault.Stop.{Stop}
@@ -67,14 +67,13 @@ step an_open (Mark OpenBrace) = Some []
 step a_semicolon (Mark Semicolon) = Some []
 step _ _ = None
 
-abbrev pub onto : Stack → Option Stack → Option Stack
-onto stack None = None
-onto stack (Some phrases) = Some (phrases ++ stack)
+-- behind a file nothing comes
+abbrev pub behind_file : TokenKind → Option Stack
+behind_file kind = None
 
 -- what may come behind a token
 abbrev pub step_all : Stack → TokenKind → Option Stack
-step_all [] kind = None
-step_all (phrase ∷ stack) kind = onto stack (step phrase kind)
+step_all = scans.step_all Phrase step behind_file
 
 -- what may come behind the tokens
 abbrev pub run : Stack → List Token → Option Stack

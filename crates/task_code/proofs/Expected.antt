@@ -1,17 +1,18 @@
 -- The stack of expectations takes each phrase of the grammar.
 use Rattle.std.proofs.Common.{◌≡◌, List, [], ◌∷◌, ◌++◌, refl, ap, ◌∙◌}
-use Rattle.std.specs.Prelude.{Option, Some, option_and_then}
+use Rattle.std.specs.Prelude.{Option, Some}
 use Rattle.oil_lexer.specs.{declared.token.{Mark.TheVariants.{OpenBrace, OpenParen, CloseParen, Semicolon, Question}, Token.{Token}}, Tokens.{name, number, mark}}
 use Rattle.task_code.specs.declared.{call.{Reference.{Reference}, Call.{Call}}, tree.{Body.{Body}, Condition.{Condition}}, words.{Service.{Service}, StatementWord.{StatementWord}}}
 use Rattle.task_code.specs.{Statements.{Statements}, Words.{statement_word}}
 use Rattle.task_code.specs.Grammar.{IsMask, last_event, more_events, IsCall, plain, object, mask, set_event, alarm, shutdown, IsCondition, choice, always, IsStatements, no_more, a_work, an_if, an_if_else, a_while, AreBodies, no_body, a_body}
 use Rattle.task_code.specs.Grammar as grammar
-use Rattle.task_code.specs.Expect.{some_statements, after_if, mask_rest, a_name, a_condition, a_semicolon, close_paren, Stack, operands, statement_step, else_step, status_step, body_phrases, step, onto, run}
+use Rattle.task_code.specs.Expect.{Phrase, some_statements, after_if, mask_rest, a_name, a_condition, a_semicolon, close_paren, Stack, operands, statement_step, else_step, status_step, body_phrases, body_step, step, run}
+use Rattle.oil_lexer.proofs.PhraseStacks as stacks
 use Rattle.task_code.proofs.Elses.{else_is_no_statement}
 
 -- the run behind a first token
 abbrev pub behind : Stack → List Token → Option Stack → Option Stack
-behind stack ts phrases = option_and_then (λ next. run next ts) (onto stack phrases)
+behind = stacks.behind Phrase step body_step
 
 run_mask : {m : List Reference} {ts rest : List Token} → IsMask m ts rest → (stack : Stack) → run (a_name ∷ (mask_rest ∷ stack)) ts ≡ run stack rest
 run_mask last_event stack = refl
@@ -60,4 +61,4 @@ run_statements (grammar.a_call {l1 = l1} {a = a} e c next) stack = ap (by_word s
 pub run_bodies : {bodies : List Body} {ts : List Token} → AreBodies bodies ts → run [] ts ≡ Some []
 run_bodies no_body = refl
 run_bodies (a_body {n = n} {l1 = l1} {l2 = l2} {l3 = l3} {l4 = l4} {a = a} e statements more) =
-    ap (λ o. option_and_then (λ next. run next (mark OpenParen l1 ∷ (name n l2 ∷ (mark CloseParen l3 ∷ (mark OpenBrace l4 ∷ a))))) (body_phrases o)) e ∙ run_statements statements _ ∙ run_bodies more
+    ap (λ o. behind [] (mark OpenParen l1 ∷ (name n l2 ∷ (mark CloseParen l3 ∷ (mark OpenBrace l4 ∷ a)))) (body_phrases o)) e ∙ run_statements statements _ ∙ run_bodies more

@@ -4,12 +4,13 @@ use Rattle.std.specs.Prelude.{Option}
 use Rattle.osek_values.specs.declared.limits.TheConstants.{MAX_CODE_DEPTH}
 use Rattle.oil_lexer.specs.{declared.{token.{Mark.TheVariants.{OpenBrace, CloseParen}, Token.{Token}}, fault.Stop.{Stop}}, Tokens.{name, mark}}
 use Rattle.oil_lexer.specs.Scan as scans
+use Rattle.oil_lexer.specs.Scan.{onto}
 use Rattle.oil_lexer.proofs.Braces.{shallow}
 use Rattle.task_code.specs.declared.{call.{Reference.{Reference}, Call.{Call}}, tree.Condition.{Condition}, words.{Service.{Service}, StatementWord.{StatementWord}}}
 use Rattle.task_code.specs.{Statements.{Statements}, Words.{is_else, statement_word}}
 use Rattle.task_code.specs.Grammar.{IsMask, last_event, more_events, IsCall, plain, object, mask, set_event, alarm, shutdown, IsCondition, choice, always, IsStatements, no_more, a_work, an_if, an_if_else, a_while}
 use Rattle.task_code.specs.Grammar as grammar
-use Rattle.task_code.specs.Expect.{Phrase, some_statements, after_if, mask_rest, a_name, a_condition, open_brace, close_paren, Stack, operands, statement_step, else_step, status_step, onto, step_all, scan}
+use Rattle.task_code.specs.Expect.{Phrase, some_statements, after_if, mask_rest, a_name, a_condition, open_brace, close_paren, Stack, operands, statement_step, else_step, status_step, step_all, scan}
 
 -- how the scan goes on behind a token that opens no brace too deep
 abbrev at_token : ℕ → Token → List Token → Option Stack → Option Stop

@@ -1,10 +1,11 @@
 -- A list of tokens is a prefix of task code exactly where the stack of expectations takes it.
 use Rattle.std.proofs.{lemmas.Bool.Decides.{nat_tests}, Common.{◌≡◌, ⊎_elim, ℕ, Bool, true, false, cond, List, [], ◌∷◌, ◌++◌, refl, sym, ap, ◌∙◌, subst, append_assoc, arith}}
-use Rattle.std.specs.Prelude.{Result, Ok, Err, Option, Some, None, option_and_then, codes, ◌==◌}
+use Rattle.std.specs.Prelude.{Result, Ok, Err, Option, Some, None, codes, ◌==◌}
 use Rattle.osek_values.specs.declared.{status.Status.{Status}, limits.TheConstants.{MAX_CODE_DEPTH}}
 use Rattle.oil_lexer.specs.declared.token.{TokenKind.{TokenKind, TheVariants.{Name, Number, Text, Mark}}, Mark.TheVariants.{OpenBrace, CloseBrace, OpenParen, CloseParen, Comma, Semicolon, Question, Bar}, Token.{Token}}
 use Rattle.oil_lexer.specs.{declared.fault.Stop.{Stop}, Tokens.{name, number, mark}, Scan.{fault_of}}
 use Rattle.oil_lexer.proofs.FirstFault as first
+use Rattle.oil_lexer.proofs.PhraseStacks as stacks
 use Rattle.task_code.specs.declared.call.{Reference.{Reference}, Call.{Call}}
 use Rattle.task_code.specs.declared.call.Call.TheVariants as call
 use Rattle.task_code.specs.Services.{plain_call, object_call, mask_call, alarm_call}
@@ -18,7 +19,7 @@ use Rattle.task_code.specs.Grammar as grammar
 use Rattle.osek_values.specs.declared.{refusal.{Rule.{Rule, TheVariants.{Syntax, Code as of_code}}, CodeRule.TheVariants.{C9}}, refused.LineFault.{LineFault}}
 use Rattle.task_code.specs.{Answers.{IsAnswer}, Faults.{HasTree, IsSyntaxFault, wrong_works_in}}
 use Rattle.task_code.specs.Expect.{Phrase, some_statements, after_if, mask_rest, a_name, a_number, a_status, a_condition, open_paren, close_paren, open_brace, a_comma, a_semicolon, a_question, Stack, operands, statement_step, else_step, status_step, step, body_phrases, body_step, step_all, run, scan}
-use Rattle.task_code.proofs.Expected.{behind, run_bodies}
+use Rattle.task_code.proofs.Expected.{run_bodies}
 
 -- 1. What the stack takes is in the grammar.
 
@@ -43,15 +44,17 @@ IsPhrase a_comma ts rest = (l : ℕ) × (ts ≡ mark Comma l ∷ rest)
 IsPhrase a_semicolon ts rest = (l : ℕ) × (ts ≡ mark Semicolon l ∷ rest)
 IsPhrase a_question ts rest = (l : ℕ) × (ts ≡ mark Question l ∷ rest)
 
+-- where nothing is expected any bodies may come
+abbrev AreSomeBodies : List Token → Type 0
+AreSomeBodies ts = (bodies : List Body) × AreBodies bodies ts
+
 -- the stack's phrases, and bodies below it
 abbrev ArePhrases : Stack → List Token → Type 0
-ArePhrases [] ts = (bodies : List Body) × AreBodies bodies ts
-ArePhrases (p ∷ stack) ts = (rest : List Token) × IsPhrase p ts rest × ArePhrases stack rest
+ArePhrases = stacks.ArePhrases Phrase step body_step IsPhrase AreSomeBodies
 
 -- the stack behind a first token, as the stack before it
-abbrev Back : Phrase → Token → Stack → List Token → Option Stack → Type 0
-Back p t stack ts None = Unit {0}
-Back p t stack ts (Some phrases) = ArePhrases (phrases ++ stack) ts → ArePhrases (p ∷ stack) (t ∷ ts)
+abbrev Back : Stack → Token → Stack → List Token → Option Stack → Type 0
+Back = stacks.Back Phrase step body_step IsPhrase AreSomeBodies
 
 -- tokens put together from their fronts
 two : (P : List Token → Type 0) (ts r1 r2 : List Token) (t1 t2 : Token) → ts ≡ t1 ∷ r1 → r1 ≡ t2 ∷ r2 → P (t1 ∷ (t2 ∷ r2)) → P ts
@@ -59,11 +62,6 @@ two P ts r1 r2 t1 t2 e1 e2 p = subst P (sym (e1 ∙ ap (λ (z : List Token). t1 
 
 four : (P : List Token → Type 0) (ts r1 r2 r3 r4 : List Token) (t1 t2 t3 t4 : Token) → ts ≡ t1 ∷ r1 → r1 ≡ t2 ∷ r2 → r2 ≡ t3 ∷ r3 → r3 ≡ t4 ∷ r4 → P (t1 ∷ (t2 ∷ (t3 ∷ (t4 ∷ r4)))) → P ts
 four P ts r1 r2 r3 r4 t1 t2 t3 t4 e1 e2 e3 e4 p = two P ts r1 r2 t1 t2 e1 e2 (two (λ (z : List Token). P (t1 ∷ (t2 ∷ z))) r2 r3 r4 t3 t4 e3 e4 p)
-
--- a statement is at the front, and a list goes on
-abbrev StatementsBack : List ℕ → ℕ → Stack → List Token → Option Stack → Type 0
-StatementsBack n l stack ts None = Unit {0}
-StatementsBack n l stack ts (Some phrases) = ArePhrases (phrases ++ stack) ts → (rest : List Token) × ((s : Statements) × IsStatements s (name n l ∷ ts) rest) × ArePhrases stack rest
 
 -- a mask that begins at a name
 mask_back : (ts b rest : List Token) → IsPhrase a_name ts b → IsPhrase mask_rest b rest → (m : List Reference) × IsMask m ts rest
@@ -93,7 +91,7 @@ if_back : (n : List ℕ) (l l1 l2 l3 l4 : ℕ) (branch : Statements) (a b rest :
 if_back n l l1 l2 l3 l4 branch a b rest e first (goes_on {next = next} is) = (if_then l branch next, an_if e first is)
 if_back n l l1 l2 l3 l4 branch a b rest e first (has_else {otherwise = otherwise} {next = next} is second more) = (if_else_then l branch otherwise next, an_if_else e first is second more)
 
-statement_back : (n : List ℕ) (l : ℕ) (stack : Stack) (ts : List Token) (w : Option StatementWord) → statement_word n ≡ w → StatementsBack n l stack ts (statement_step w)
+statement_back : (n : List ℕ) (l : ℕ) (stack : Stack) (ts : List Token) (w : Option StatementWord) → statement_word n ≡ w → Back (some_statements ∷ stack) (name n l) stack ts (statement_step w)
 statement_back n l stack ts None e = tt
 statement_back n l stack ts (Some word.Work) e = λ (b, (v, l1, e1), (c, (l2, e2), (rest, (next, is), more))).
     (rest, (work_then l v next, two (λ (z : List Token). IsStatements (work_then l v next) (name n l ∷ z) rest) ts b c _ _ e1 e2 (a_work e is)), more)
@@ -107,31 +105,29 @@ statement_back n l stack ts (Some (word.Service s)) e = λ (r1, (l1, e1), others
     let (b, (c, is), (r3, (l2, e2), (rest, (next, list), more))) = call_back s (a_semicolon ∷ (some_statements ∷ stack)) r1 regrouped in
     (rest, (call_then l c next, subst (λ (z : List Token). IsStatements (call_then l c next) (name n l ∷ z) rest) (sym e1) (grammar.a_call e (subst (λ (z : List Token). IsCall s c r1 z) e2 is) list)), more)
 
-statements_back : (n : List ℕ) (l : ℕ) (stack : Stack) (ts : List Token) (phrases : Option Stack) → StatementsBack n l stack ts phrases → Back some_statements (name n l) stack ts phrases
-statements_back n l stack ts None b = tt
-statements_back n l stack ts (Some phrases) b = b
-
-tail_back : (n : List ℕ) (l : ℕ) (stack : Stack) (ts : List Token) (phrases : Option Stack) → StatementsBack n l stack ts phrases → Back after_if (name n l) stack ts phrases
+tail_back : (n : List ℕ) (l : ℕ) (stack : Stack) (ts : List Token) (phrases : Option Stack) → Back (some_statements ∷ stack) (name n l) stack ts phrases → Back (after_if ∷ stack) (name n l) stack ts phrases
 tail_back n l stack ts None b = tt
 tail_back n l stack ts (Some phrases) b = λ h. let (rest, (s, is), more) = b h in (rest, goes_on is, more)
 
-else_back : (n : List ℕ) (l : ℕ) (stack : Stack) (ts : List Token) (b : Bool) → is_else n ≡ b → Back after_if (name n l) stack ts (else_step b (statement_word n))
+else_back : (n : List ℕ) (l : ℕ) (stack : Stack) (ts : List Token) (b : Bool) → is_else n ≡ b → Back (after_if ∷ stack) (name n l) stack ts (else_step b (statement_word n))
 else_back n l stack ts true e = λ (a, (l1, e1), (b, (second, s), (rest, (next, is), more))).
     (rest, subst (λ (z : List Token). Tail (name n l ∷ z) rest) (sym e1) (has_else e s is), more)
 else_back n l stack ts false e = tail_back n l stack ts (statement_step (statement_word n)) (statement_back n l stack ts (statement_word n) refl)
 
-status_back : (n : List ℕ) (l : ℕ) (stack : Stack) (ts : List Token) (s : Option Status) → status_of n ≡ s → Back a_status (name n l) stack ts (status_step s)
+status_back : (n : List ℕ) (l : ℕ) (stack : Stack) (ts : List Token) (s : Option Status) → status_of n ≡ s
+    → Back (a_status ∷ stack) (name n l) stack ts (status_step s)
 status_back n l stack ts None e = tt
 status_back n l stack ts (Some s) e = λ h. (ts, (n, l, s, e, refl), h)
 
-one_back : (v line : ℕ) (stack : Stack) (ts : List Token) (b : Bool) → (v == 1) ≡ b → Back a_condition (number v line) stack ts (cond b (Some []) None)
+one_back : (v line : ℕ) (stack : Stack) (ts : List Token) (b : Bool) → (v == 1) ≡ b
+    → Back (a_condition ∷ stack) (number v line) stack ts (cond b (Some []) None)
 one_back v line stack ts true e = λ h.
     let one : v ≡ 1 = grind (arith, nat_tests) in
     (ts, (Always, number v line, subst (λ (x : ℕ). IsCondition Always (number x line)) (sym one) always, refl), h)
 one_back v line stack ts false e = tt
 
-back : (p : Phrase) (kind : TokenKind) (line : ℕ) (stack : Stack) (ts : List Token) → Back p (record { kind = kind; line = line }) stack ts (step p kind)
-back some_statements (Name n) line stack ts = statements_back n line stack ts (statement_step (statement_word n)) (statement_back n line stack ts (statement_word n) refl)
+back : (p : Phrase) (kind : TokenKind) (line : ℕ) (stack : Stack) (ts : List Token) → Back (p ∷ stack) (record { kind = kind; line = line }) stack ts (step p kind)
+back some_statements (Name n) line stack ts = statement_back n line stack ts (statement_word n) refl
 back some_statements (Mark CloseBrace) line stack ts = λ h. (ts, (closed line, no_more), h)
 back after_if (Name n) line stack ts = else_back n line stack ts (is_else n) refl
 back after_if (Mark CloseBrace) line stack ts = λ h. (ts, goes_on no_more, h)
@@ -154,36 +150,21 @@ back _ _ line stack ts = tt
 
 -- bodies
 
-abbrev BodiesBack : Token → List Token → Option Stack → Type 0
-BodiesBack t ts None = Unit {0}
-BodiesBack t ts (Some phrases) = ArePhrases phrases ts → (bodies : List Body) × AreBodies bodies (t ∷ ts)
-
-body_back : (n : List ℕ) (l : ℕ) (ts : List Token) (k : Option BodyKind) → body_kind n ≡ k → BodiesBack (name n l) ts (body_phrases k)
+body_back : (n : List ℕ) (l : ℕ) (ts : List Token) (k : Option BodyKind) → body_kind n ≡ k → Back [] (name n l) [] ts (body_phrases k)
 body_back n l ts None e = tt
 body_back n l ts (Some kind) e = λ (r1, (l1, e1), (r2, (m, l2, e2), (r3, (l3, e3), (r4, (l4, e4), (b, (statements, s), (bodies, more)))))).
     let all : List Body = record { kind = kind; line = l; owner = reference m l2; statements = statements } ∷ bodies in
     (all, four (λ (z : List Token). AreBodies all (name n l ∷ z)) ts r1 r2 r3 r4 _ _ _ _ e1 e2 e3 e4 (a_body e s more))
 
-bodies_back : (kind : TokenKind) (l : ℕ) (ts : List Token) → BodiesBack (record { kind = kind; line = l }) ts (body_step kind)
+bodies_back : (kind : TokenKind) (l : ℕ) (ts : List Token) → Back [] (record { kind = kind; line = l }) [] ts (body_step kind)
 bodies_back (Name n) l ts = body_back n l ts (body_kind n) refl
 bodies_back (Number n) l ts = tt
 bodies_back (Text n) l ts = tt
 bodies_back (Mark n) l ts = tt
 
-back_onto : (p : Phrase) (t : Token) (stack : Stack) (ts : List Token) (phrases : Option Stack) → Back p t stack ts phrases → ((next : Stack) → run next ts ≡ Some [] → ArePhrases next ts) → behind stack ts phrases ≡ Some [] → ArePhrases (p ∷ stack) (t ∷ ts)
-back_onto p t stack ts None b more e = absurd cc
-back_onto p t stack ts (Some phrases) b more e = b (more (phrases ++ stack) e)
-
-bodies_onto : (t : Token) (ts : List Token) (phrases : Option Stack) → BodiesBack t ts phrases → ((next : Stack) → run next ts ≡ Some [] → ArePhrases next ts) → option_and_then (λ next. run next ts) phrases ≡ Some [] → (bodies : List Body) × AreBodies bodies (t ∷ ts)
-bodies_onto t ts None b more e = absurd cc
-bodies_onto t ts (Some phrases) b more e = b (more phrases e)
-
 -- what the stack takes to its end is the stack's phrases
 taken : (ts : List Token) (stack : Stack) → run stack ts ≡ Some [] → ArePhrases stack ts
-taken [] [] e = ([], no_body)
-taken [] (p ∷ stack) e = absurd cc
-taken (t ∷ ts) [] e = bodies_onto t ts (body_step t.kind) (bodies_back t.kind t.line ts) (λ next h. taken ts next h) e
-taken (t ∷ ts) (p ∷ stack) e = back_onto p t stack ts (step p t.kind) (back p t.kind t.line stack ts) (λ next h. taken ts next h) e
+taken = stacks.taken Phrase step body_step IsPhrase AreSomeBodies back bodies_back ([], no_body)
 
 -- 2. Whatever the stack is, something completes it.
 
@@ -222,10 +203,7 @@ least_taken a_semicolon stack more = refl
 least_taken a_question stack more = refl
 
 completion : (stack : Stack) → (more : List Token) × (run stack more ≡ Some [])
-completion [] = ([], refl)
-completion (p ∷ stack) =
-    let (more, e) = completion stack in
-    (least p more, least_taken p stack more ∙ e)
+completion = stacks.completion Phrase step body_step least least_taken
 
 -- 3. The scan gives the first fault.
 
@@ -239,7 +217,7 @@ pub stop_fault : (tokens : List Token) (stop : Stop) → scan 0 [] tokens ≡ So
 stop_fault = first.stop_fault Code IsSentence MAX_CODE_DEPTH Phrase step_all [] complete right completion
 
 pub has_tree : (tokens : List Token) (code : Code) → IsSentence tokens code → scan 0 [] tokens ≡ None → HasTree tokens code
-has_tree tokens code is e = record { sentence = is; clear = subst (first.Answers Code IsSentence MAX_CODE_DEPTH Phrase step_all [] complete right completion tokens) e (first.first_fault Code IsSentence MAX_CODE_DEPTH Phrase step_all [] complete right completion tokens) }
+has_tree = first.has_tree Code IsSentence MAX_CODE_DEPTH Phrase step_all [] complete right completion
 
 -- a tree without a wrong `work` is code, another has a first one
 by_works : (tokens : List Token) (code : Code) (lines : List ℕ) → HasTree tokens code → wrong_works_in code.bodies ≡ lines → (answer : Result Code (LineFault Rule)) × IsAnswer answer tokens

@@ -78,14 +78,9 @@ abbrev pub body_step : TokenKind → Option Stack
 body_step (Name n) = body_phrases (body_kind n)
 body_step _ = None
 
-abbrev pub onto : Stack → Option Stack → Option Stack
-onto stack None = None
-onto stack (Some phrases) = Some (phrases ++ stack)
-
 -- what may come behind a token
 abbrev pub step_all : Stack → TokenKind → Option Stack
-step_all [] kind = body_step kind
-step_all (phrase ∷ stack) kind = onto stack (step phrase kind)
+step_all = scans.step_all Phrase step body_step
 
 -- what may come behind the tokens
 abbrev pub run : Stack → List Token → Option Stack
