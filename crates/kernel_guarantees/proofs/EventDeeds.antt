@@ -20,7 +20,7 @@ use Rattle.osek_standard.specs.declared.block.Kind.TheVariants as kind
 use Rattle.osek_standard.specs.declared.state.Processor.TheVariants as processor
 use Rattle.osek_standard.proofs.Callers.{task_level_of}
 use Rattle.kernel_guarantees.specs.{Events.{SetsBy, SetsEvents}, Scheduling.{kind_at}}
-use Rattle.kernel_guarantees.proofs.{EventReleases.{after, due_after}, EventSends.{KeepsEvents, moving}, Onward.{onward_well}, LockedSteps.{effect_is, effect_of}, Lookups.{put_task}, Others.{IsByOthers, step_by_others}, Serving.{either_by}}
+use Rattle.kernel_guarantees.proofs.{EventReleases.{after, due_after}, EventSends.{KeepsEvents, inside_live, moving}, Onward.{onward_well}, LockedSteps.{effect_is, effect_of}, Lookups.{put_task}, Others.{IsByOthers, step_by_others}, Serving.{either_by}}
 use Rattle.kernel_guarantees.proofs.CallNames as call
 
 -- what is cleared isn't there
@@ -168,11 +168,6 @@ not_both Suspended e f = false≢true f
 not_both (Live x) e f = false≢true e
 not_both (Waiting b) e f = false≢true e
 
-live_before : (b : Bool) (a : Activity) → is_live_activity (inside_as b a) ≡ true → is_live_activity a ≡ true
-live_before b Suspended e = e
-live_before b (Live x) e = refl
-live_before b (Waiting c) e = e
-
 activated_fresh : (app : App) (t : ℕ) (x : TaskState) (a : Activity) → x.activity ≡ a → IsFresh t x (activated_by app t x a)
 activated_fresh app t x Suspended e off live = refl
 activated_fresh app t x (Live y) e off live = absurd (false≢true (sym (ap is_suspended_activity e) ∙ off))
@@ -189,7 +184,7 @@ fresh_by_others app = record {
   activates = λ t x. activated_fresh app t x x.activity refl;
   wakes = λ t m x waits off live. absurd (released_fresh app x.activity off live);
   sets = λ t m x off live. absurd (not_both x.activity off live);
-  insides = λ t b x y h off live. h off (live_before b y.activity live);
+  insides = λ t b x y h off live. h off (inside_live b y.activity live);
 }
 
 -- who runs isn't suspended

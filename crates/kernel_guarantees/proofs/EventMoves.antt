@@ -1,14 +1,14 @@
 -- What others make of a task's events.
-use Rattle.std.proofs.Common.{◌≡◌, ℕ, Bool, true, false, not, nat_eq, refl, sym, ap, ◌∙◌, inl, inr, arith}
+use Rattle.std.proofs.Common.{◌≡◌, ℕ, true, false, not, nat_eq, refl, sym, ap, ◌∙◌, inl, inr, arith}
 use Rattle.std.proofs.lemmas.Bool.{cases_Bool, false≢true}
 use Rattle.std.proofs.lemmas.Nat.Bits.{bit_at-zero, bit_at_and, bit_at_or, same_from_bits}
 use Rattle.std.specs.{Prelude.{bit_and, bit_or}, Int.{bit_at, Bits.{and_self}}}
 use Rattle.osek_values.specs.declared.{event.Event.{Event}, numbers.{BlockNo.{BlockNo}, TaskNo.{TaskNo}}}
 use Rattle.osek_standard.specs.declared.{app.App.{App}, state.State.{State}, task_state.{TaskState.{TaskState}, Activity.{Activity, TheVariants.{Suspended, Live, Waiting}}}}
-use Rattle.osek_standard.specs.{Apps.{awaited, the_block}, TaskStates.{is_live_activity, is_suspended_activity}, States.{task_state}, Internal.{inside_as}}
+use Rattle.osek_standard.specs.{Apps.{awaited, the_block}, TaskStates.{is_live_activity, is_suspended_activity}, States.{task_state}}
 use Rattle.osek_standard.specs.{Services.{activated_by, share, waits_in}, Kernel.{step}, Well.{Well}}
 use Rattle.osek_standard.specs.declared.state.Processor.TheVariants as processor
-use Rattle.kernel_guarantees.proofs.{Awaiting.{none_shared}, Others.{IsByOthers, step_by_others}}
+use Rattle.kernel_guarantees.proofs.{Awaiting.{none_shared}, EventSends.{inside_live, not_live}, Others.{IsByOthers, step_by_others}}
 
 -- events that are set stay, and who is released has one that it waited for
 pub record Follows (app : App) (t : ℕ) (x y : TaskState) : Type 0 where
@@ -28,28 +28,20 @@ still_shared a m n e = elim (cases_Bool (share (bit_or a m) n)) [
 ]
 
 module _ (app : App) where
-  waiting_dead : (b : BlockNo) (a : Activity) → a ≡ Waiting b → is_live_activity a ≡ true → ⊥
-  waiting_dead b a e live = false≢true (sym (ap is_live_activity e) ∙ live)
-
   activated_follows : (t : ℕ) (x : TaskState) (a : Activity) → x.activity ≡ a → Follows app t x (activated_by app t x a)
   activated_follows t x Suspended e = record { keeps = λ f. absurd (false≢true (sym f ∙ ap is_suspended_activity e)); released = λ b f. absurd (cc (e, f)) }
   activated_follows t x (Live y) e = record { keeps = λ f. and_self x.events.0; released = λ b f. absurd (cc (e, f)) }
-  activated_follows t x (Waiting b) e = record { keeps = λ f. and_self x.events.0; released = λ d f live. absurd (waiting_dead d x.activity f live) }
-
-  inside_live : (b : Bool) (a : Activity) → is_live_activity (inside_as b a) ≡ true → is_live_activity a ≡ true
-  inside_live b Suspended e = e
-  inside_live b (Live x) e = refl
-  inside_live b (Waiting c) e = e
+  activated_follows t x (Waiting b) e = record { keeps = λ f. and_self x.events.0; released = λ d f live. absurd (not_live d x.activity f live) }
 
   events_by_others : IsByOthers app (Follows app)
   events_by_others = record {
-    stays = λ t x. record { keeps = λ f. and_self x.events.0; released = λ b f live. absurd (waiting_dead b x.activity f live) };
+    stays = λ t x. record { keeps = λ f. and_self x.events.0; released = λ b f live. absurd (not_live b x.activity f live) };
     activates = λ t x. activated_follows t x x.activity refl;
     wakes = λ t m x waits. record {
       keeps = λ f. set_stay x.events.0 m;
       released = λ b f live. still_shared x.events.0 m (awaited (the_block app b.0).kind) (sym (ap (λ (a : Activity). waits_in app a m) f) ∙ waits);
     };
-    sets = λ t m x. record { keeps = λ f. set_stay x.events.0 m; released = λ b f live. absurd (waiting_dead b x.activity f live) };
+    sets = λ t m x. record { keeps = λ f. set_stay x.events.0 m; released = λ b f live. absurd (not_live b x.activity f live) };
     insides = λ t b x y h. record { keeps = h.keeps; released = λ d f live. h.released d f (inside_live b y.activity live) };
   }
 

@@ -29,7 +29,7 @@ place_keeps to x = record { events = refl; waiting = λ b e. ap (λ (a : Activit
 pub not_live : (b : BlockNo) (a : Activity) → a ≡ Waiting b → is_live_activity a ≡ true → ⊥
 not_live b a e live = false≢true (sym (ap is_live_activity e) ∙ live)
 
-inside_live : (b : Bool) (a : Activity) → is_live_activity (inside_as b a) ≡ true → is_live_activity a ≡ true
+pub inside_live : (b : Bool) (a : Activity) → is_live_activity (inside_as b a) ≡ true → is_live_activity a ≡ true
 inside_live b Suspended e = e
 inside_live b (Live x) e = refl
 inside_live b (Waiting c) e = e

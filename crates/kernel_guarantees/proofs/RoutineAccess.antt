@@ -7,10 +7,10 @@ use Rattle.osek_values.specs.declared.status.Status.TheVariants as status
 use Rattle.osek_standard.specs.declared.{app.App.{App}, block.Kind.{Kind}, state.{State.{State}, Source.{Source}, Processor.{Processor}}, task_state.TaskState.{TaskState}}
 use Rattle.osek_standard.specs.{Apps.{source_priority, the_block}, TaskStates.{held, holds, suspended}, States.{caller, held_by_source, here, is_in, is_taken, is_that_task, source_state, task_of, task_state}}
 use Rattle.osek_standard.specs.{Arrivals.{arrival, takes_none_by}, Levels.{interrupt_ceiling, own_level, routine_level, task_level}, Internal.{occupied}}
-use Rattle.osek_standard.specs.{Effects.{effect, effect_at, effect_by, moved_to, place_at}, Services.{Answer, get_resource_by, get_resource_isr}, Well.{IsRunningAt, Well}}
+use Rattle.osek_standard.specs.{Effects.{effect, effect_at, effect_by, moved_to, place_at}, Services.{Answer, get_resource_by, get_resource_isr}, Well.{Well}}
 use Rattle.osek_standard.specs.declared.state.Processor.TheVariants as processor
 use Rattle.osek_standard.specs.declared.state.Source.TheVariants as source
-use Rattle.osek_standard.proofs.{ArrivalLaws.{arrival_is}, Callers.{routine_level_of}}
+use Rattle.osek_standard.proofs.{ArrivalLaws.{arrival_is}, Callers.{routine_level_of}, SourceKeeps.{runs_began}}
 use Rattle.kernel_guarantees.specs.{Conditions.{HasTops}, Nesting.{IsIn, IsNested}, Resources.{Holder, Holds, IsAtGetResource, Occupies, OfRoutine, OfTask}, Scheduling.{IsSettled}, Underway.{IsStacked, is_current}}
 use Rattle.kernel_guarantees.proofs.{Ceilings.{either_false, held_occupies, occupies_underway, only_above, some_entry}, Nesting.{ceiling_in_level, own_in_level, routine_in_level, task_in_level, top}}
 use Rattle.kernel_guarantees.proofs.{Serving.{either_by}, StackSteps.{moved_shrinks}}
@@ -39,10 +39,6 @@ free_of_all s r none = either_false by_tasks by_routines not_by_tasks not_by_rou
 holds_in : (x : Source) (r : ℕ) → holds (held_by_source x) r ≡ true → is_in x ≡ true
 holds_in source.Out r h = absurd (false≢true h)
 holds_in (source.In x) r h = refl
-
-running_in : (app : App) (k : ℕ) (x : Source) → IsRunningAt app k x → is_in x ≡ true
-running_in app k source.Out h = absurd h
-running_in app k (source.In x) h = refl
 
 module _ (app : App) where
   held_in_level : (k r : ℕ) (x : Source) → holds (held_by_source x) r ≡ true → interrupt_ceiling app r ≤ routine_level app k x
@@ -93,7 +89,7 @@ module _ (app : App) where
     module _ (w : Well app s) (stacked : IsStacked app s) (settled : IsSettled app s) (nested : IsNested app s) (tops : HasTops app) (k : SourceNo) (over : Option TaskNo) (runs : s.processor ≡ processor.Interrupted k over)
         (r : ℕ) (low : own_level app k.0 ≤ interrupt_ceiling app r) (mine : Holds s (OfRoutine k.0) r → ⊥) where
       began : IsIn s k.0
-      began = running_in app k.0 (source_state s k.0) (routine_level_of app s k over w runs).runs
+      began = runs_began app k.0 (source_state s k.0) (routine_level_of app s k over w runs).runs
 
       pub nobody_holds : (x : Holder) → Holds s x r → ⊥
       nobody_holds (OfTask u) h =
