@@ -1,7 +1,7 @@
 -- What follows from the stack of the tasks that are underway for the resources that they have.
 use Rattle.std.proofs.Common.{◌≡◌, ◌≢◌, ℕ, ◌<◌, ◌≤◌, Bool, true, false, not, ◌&&◌, ◌||◌, suc, List, [], ◌∷◌, length, refl, sym, subst, ap, ◌∙◌, inl, inr, arith, nat_eq, nat_lt, Some, None}
-use Rattle.std.proofs.lemmas.Bool.{cases_Bool, cases_eq, eq-eqb, eqb-true, false≢true, ne_eqb, Decides.{nat_tests}}
-use Rattle.std.specs.{Prelude.{if◌then◌else◌, max, slice_index_or}, List.{cons_option, fold, list_any}, declared.option.Option.{Option}}
+use Rattle.std.proofs.lemmas.Bool.{cases_Bool, cases_eq, eq-eqb, false≢true, ne_eqb, Decides.{nat_tests}}
+use Rattle.std.specs.{Prelude.{if◌then◌else◌, slice_index_or}, List.{cons_option, list_any}, declared.option.Option.{Option}}
 use Rattle.osek_values.specs.declared.numbers.{ResNo.{ResNo}, TaskNo.{TaskNo}}
 use Rattle.osek_values.specs.declared.status.Status.TheVariants as status
 use Rattle.osek_standard.specs.declared.{app.App.{App}, state.{State.{State}, Source.{Source}, Processor.{Processor}}, task_state.{TaskState.{TaskState}, Activity.{Activity, TheVariants.{Suspended, Live, Waiting}}}}
@@ -12,7 +12,7 @@ use Rattle.osek_standard.specs.declared.state.Source.TheVariants as source
 use Rattle.osek_standard.proofs.Callers.{task_level_of}
 use Rattle.kernel_guarantees.specs.{Resources.{Holds, Occupies, OfTask}, Underway.{IsStacked, has_begun, is_current, is_first, is_underway}}
 use Rattle.kernel_guarantees.specs.Scheduling.{IsSettled}
-use Rattle.kernel_guarantees.proofs.{Serving.{either_by}, StackSteps.{or_cases}}
+use Rattle.kernel_guarantees.proofs.{Greatest.{greatest_of, held_among}, Serving.{either_by}, StackSteps.{or_cases, or_rest}}
 
 -- an entry passes where some entry passes
 pub some_entry : {X : Type 0} (p : X → Bool) (d : X) (xs : List X) → list_any p xs ≡ true → (k : ℕ) × (p (slice_index_or xs k d) ≡ true)
@@ -34,17 +34,9 @@ module _ (app : App) where
   -- what a task has is at most its current priority
   ceiling_within : (p r : ℕ) (xs : List ResNo) → holds xs r ≡ true → ceiling app r ≤ highest app p xs
   unfolding highest
-  ceiling_within p r xs e = within p xs e where
-    from : (n : ℕ) (ys : List ResNo) → n ≤ fold (λ p r. max p (ceiling app r.0)) n ys
-    from n [] = omega arith
-    from n (y ∷ ys) = omega (arith, from (max n (ceiling app y.0)) ys)
-
-    within : (n : ℕ) (ys : List ResNo) → holds ys r ≡ true → ceiling app r ≤ fold (λ p r. max p (ceiling app r.0)) n ys
-    within n [] h = absurd (false≢true h)
-    within n (y ∷ ys) h = elim (or_cases (nat_eq y.0 r) (holds ys r) h) [
-      | inl f ↦ omega (arith, from (max n (ceiling app y.0)) ys, ap (λ (q : ℕ). ceiling app q) (eqb-true y.0 r f))
-      | inr f ↦ within (max n (ceiling app y.0)) ys f
-    ]
+  ceiling_within p r xs e =
+      let (q, among, is) = held_among xs r e in
+      subst (λ (n : ℕ). ceiling app n ≤ highest app p xs) is (greatest_of (λ (q : ResNo). ceiling app q.0) p xs q among)
 
   -- who has a resource is underway
   some_held : (xs : List ResNo) (r : ℕ) (b : Bool) → holds xs r ≡ true → (not (nat_eq (length xs) 0) || b) ≡ true
@@ -64,10 +56,7 @@ module _ (app : App) where
 
     holds_occupies : (o : Option ResNo) (xs : List ResNo) (r : ℕ) → holds xs r ≡ true → holds (cons_option o xs) r ≡ true
     holds_occupies None xs r h = h
-    holds_occupies (Some q) xs r h = or_second (nat_eq q.0 r) (holds xs r) h where
-      or_second : (b c : Bool) → c ≡ true → (b || c) ≡ true
-      or_second true c e = refl
-      or_second false c e = e
+    holds_occupies (Some q) xs r h = or_rest (nat_eq q.0 r) (holds xs r) h
 
     pub held_occupies : (t r : ℕ) → Holds s (OfTask t) r → Occupies app s t r
     held_occupies t r h = holds_occupies (if is_inside (task_state s t) then internal_of app t else None) (held (task_state s t)) r h

@@ -1,7 +1,7 @@
 -- Each deed and the outcome after it leave the routines nested.
-use Rattle.std.proofs.Common.{◌≡◌, ◌≢◌, ℕ, ◌<◌, ◌≤◌, Bool, true, List, [], ◌∷◌, zero, suc, take, length, refl, sym, subst, ap, ◌∙◌, inl, inr, arith, nat_eq, Some, None, get_or-set_other}
-use Rattle.std.proofs.lemmas.Bool.{cases_eq, eq-eqb, eqb-true, false≢true, Decides.{nat_tests}}
-use Rattle.std.specs.{Prelude.{max}, List.{fold, range_with_len}, declared.option.Option.{Option}}
+use Rattle.std.proofs.Common.{◌≡◌, ◌≢◌, ℕ, ◌<◌, ◌≤◌, Bool, true, List, [], ◌∷◌, zero, suc, take, length, refl, sym, subst, ap, ◌∙◌, inl, inr, arith, Some, None, get_or-set_other}
+use Rattle.std.proofs.lemmas.Bool.{cases_eq, eq-eqb, false≢true, Decides.{nat_tests}}
+use Rattle.std.specs.{Prelude.{max}, List.{range_with_len}, declared.option.Option.{Option}}
 use Rattle.osek_values.specs.declared.{event.Event.{Event}, numbers.{ModeNo.{ModeNo}, ResNo.{ResNo}, SourceNo.{SourceNo}, TaskNo.{TaskNo}}}
 use Rattle.osek_values.specs.Numbers.{mask}
 use Rattle.osek_standard.specs.declared.{app.App.{App}, state.{State.{State}, Source.{Source}, Processor.{Processor}, Caller.{TheVariants.{Routine}}}}
@@ -13,18 +13,17 @@ use Rattle.osek_standard.specs.{Effects.{effect, halted_by, moved_by, returned_t
 use Rattle.osek_standard.specs.Dispatch.{Outcome, Keep, To, if_any, instruction, outcome_of, settled}
 use Rattle.osek_standard.specs.declared.state.Processor.TheVariants as processor
 use Rattle.osek_standard.specs.declared.state.Source.TheVariants as source
-use Rattle.osek_standard.proofs.{ArrivalLaws.{arrival_is}, Callers.{task_level_of}, Keeps.{live_at_processor}, NestLaws.{entered_known, next_is, none_next}, StepKeeps.{initial_is_well, instruction_keeps, start_is_well}, EffectKeeps.{effect_keeps}, Members.{Among, among_range}}
+use Rattle.osek_standard.proofs.{ArrivalLaws.{arrival_is}, Callers.{task_level_of}, Keeps.{live_at_processor}, NestLaws.{entered_known, next_is, none_next}, StepKeeps.{initial_is_well, instruction_keeps, start_is_well}, EffectKeeps.{effect_keeps}, Members.{among_range}}
 use Rattle.osek_standard.specs.declared.block.Kind.{Kind}
 use Rattle.kernel_guarantees.specs.Scheduling.{kind_at}
 use Rattle.kernel_guarantees.specs.{Nesting.{IsIn, IsNested, level_of}, Reached.{IsReached}}
-use Rattle.kernel_guarantees.proofs.{Deeds.{AreDeeds}, Effecting.{effect_does}, Lookups.{each_is_out, put_source, put_task}, Reaching.{reached_has, step_goes}, StackSteps.{or_cases}}
+use Rattle.kernel_guarantees.proofs.{Deeds.{AreDeeds}, Effecting.{effect_does}, Greatest.{greatest_from, greatest_of, held_among}, Lookups.{each_is_out, put_source, put_task}, Reaching.{reached_has, step_goes}}
 
 module _ (app : App) where
   -- levels under more and under fewer resources
   level_from : (n : ℕ) (xs : List ResNo) → n ≤ highest_level app n xs
   unfolding highest_level
-  level_from n [] = omega arith
-  level_from n (x ∷ xs) = let h : max n (interrupt_ceiling app x.0) ≤ fold (λ n r. max n (interrupt_ceiling app r.0)) (max n (interrupt_ceiling app x.0)) xs = level_from (max n (interrupt_ceiling app x.0)) xs in omega (arith, h)
+  level_from n xs = greatest_from (λ (r : ResNo). interrupt_ceiling app r.0) n xs
 
   level_less : (k n : ℕ) (xs : List ResNo) → highest_level app k (take n xs) ≤ highest_level app k xs
   unfolding highest_level
@@ -34,37 +33,25 @@ module _ (app : App) where
 
   pub ceiling_in_level : (n r : ℕ) (xs : List ResNo) → holds xs r ≡ true → interrupt_ceiling app r ≤ highest_level app n xs
   unfolding highest_level
-  ceiling_in_level n r [] e = absurd (false≢true e)
-  ceiling_in_level n r (x ∷ xs) e = elim (or_cases (nat_eq x.0 r) (holds xs r) e) [
-    | inl f ↦ (let same : interrupt_ceiling app x.0 ≡ interrupt_ceiling app r = ap (λ (q : ℕ). interrupt_ceiling app q) (eqb-true x.0 r f) in
-        let h = level_from (max n (interrupt_ceiling app x.0)) xs in omega (arith, h, same))
-    | inr f ↦ ceiling_in_level (max n (interrupt_ceiling app x.0)) r xs f
-  ]
+  ceiling_in_level n r xs e =
+      let (q, among, is) = held_among xs r e in
+      subst (λ (m : ℕ). interrupt_ceiling app m ≤ highest_level app n xs) is (greatest_of (λ (q : ResNo). interrupt_ceiling app q.0) n xs q among)
 
   pub own_in_level : (k : ℕ) (x : Source) → is_in x ≡ true → own_level app k ≤ routine_level app k x
   own_in_level k source.Out e = absurd (false≢true e)
   own_in_level k (source.In x) e = level_from (own_level app k) x.held
 
   -- the interrupt level is that of each routine at least, and of the task
-  levels_from : (f : ℕ → ℕ) (n : ℕ) (xs : List ℕ) → n ≤ fold (λ m k. max m (f k)) n xs
-  levels_from f n [] = omega arith
-  levels_from f n (x ∷ xs) = omega (arith, levels_from f (max n (f x)) xs)
-
-  levels_of : (f : ℕ → ℕ) (n : ℕ) (xs : List ℕ) (k : ℕ) → Among k xs → f k ≤ fold (λ m k. max m (f k)) n xs
-  levels_of f n [] k m = absurd m
-  levels_of f n (x ∷ xs) k (inl e) = omega (arith, levels_from f (max n (f x)) xs, ap f e)
-  levels_of f n (x ∷ xs) k (inr m) = levels_of f (max n (f x)) xs k m
-
   pub routine_in_level : (s : State) (k : ℕ) → IsIn s k → level_of app s k ≤ level app s
   unfolding level
   routine_in_level s k h =
       let known = entered_known app s k h in
-      levels_of (λ (l : ℕ). routine_level app l (source_state s l)) (task_level app s (task_of s.processor)) (range_with_len 0 (length s.sources)) k
+      greatest_of (λ (l : ℕ). routine_level app l (source_state s l)) (task_level app s (task_of s.processor)) (range_with_len 0 (length s.sources)) k
       (among_range 0 (length s.sources) k (omega arith) (omega (arith, known)))
 
   pub task_in_level : (s : State) → task_level app s (task_of s.processor) ≤ level app s
   unfolding level
-  task_in_level s = levels_from (λ (l : ℕ). routine_level app l (source_state s l)) (task_level app s (task_of s.processor)) (range_with_len 0 (length s.sources))
+  task_in_level s = greatest_from (λ (l : ℕ). routine_level app l (source_state s l)) (task_level app s (task_of s.processor)) (range_with_len 0 (length s.sources))
 
   module _ (s : State) where
     nested_out : AreOut app s → IsNested app s

@@ -19,7 +19,7 @@ use Rattle.osek_standard.proofs.{ArrivalLaws.{arrival_is}, Callers.{moved_proces
 use Rattle.osek_standard.specs.declared.block.Kind.{Kind}
 use Rattle.kernel_guarantees.specs.Scheduling.{kind_at}
 use Rattle.kernel_guarantees.specs.{Reached.{IsReached}, Scheduling.{IsSettled}, Underway.{is_begun, is_underway}}
-use Rattle.kernel_guarantees.proofs.{Deeds.{AreDeeds, asked_of}, Effecting.{effect_does}, Lookups.{put_task}, Reaching.{reached_has, step_goes}, Regrouping.{IsAlike, alike}}
+use Rattle.kernel_guarantees.proofs.{Deeds.{AreDeeds, asked_of}, Effecting.{effect_does}, Greatest.{greatest_from}, Lookups.{put_task}, Reaching.{reached_has, step_goes}, Regrouping.{IsAlike, alike}}
 use Rattle.kernel_guarantees.proofs.{Serving.{either_by, running}, StackedDeeds.{activated_fresh, of_extended}, StackedSteps.{not_live}}
 
 -- more resources don't lower a priority
@@ -28,12 +28,8 @@ module _ (app : App) where
   fold_higher m n [] h = h
   fold_higher m n (x ∷ xs) h = fold_higher (max m (ceiling app x.0)) (max n (ceiling app x.0)) xs (omega (arith, h))
 
-  fold_at_least : (n : ℕ) (xs : List ResNo) → n ≤ fold (λ p r. max p (ceiling app r.0)) n xs
-  fold_at_least n [] = omega arith
-  fold_at_least n (x ∷ xs) = omega (arith, fold_at_least (max n (ceiling app x.0)) xs)
-
   fold_longer : (n : ℕ) (xs ys : List ResNo) → fold (λ p r. max p (ceiling app r.0)) n xs ≤ fold (λ p r. max p (ceiling app r.0)) n (xs ++ ys)
-  fold_longer n [] ys = fold_at_least n ys
+  fold_longer n [] ys = greatest_from (λ (r : ResNo). ceiling app r.0) n ys
   fold_longer n (x ∷ xs) ys = fold_longer (max n (ceiling app x.0)) xs ys
 
   highest_taken : (p : ℕ) (o : Option ResNo) (xs ys : List ResNo) → highest app p (cons_option o xs) ≤ highest app p (cons_option o (xs ++ ys))

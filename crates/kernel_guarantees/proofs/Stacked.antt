@@ -1,11 +1,11 @@
 -- What follows from the stack of the tasks that are underway.
 use Rattle.std.proofs.{Common.{◌≡◌, ◌≢◌, ℕ, ◌<◌, ◌≤◌, Bool, true, false, not, ◌&&◌, ◌||◌, List, [], ◌∷◌, length, refl, sym, subst, inl, inr, arith, nat_eq}, lemmas.Bool.{cases_Bool, false≢true, ne_eqb}}
-use Rattle.std.specs.{Prelude.{max}, List.{fold}}
 use Rattle.osek_values.specs.declared.numbers.{ResNo.{ResNo}}
 use Rattle.osek_standard.specs.declared.{app.App.{App}, state.State.{State}}
 use Rattle.osek_standard.specs.{Apps.{is_extended}, TaskStates.{is_live}, States.{task_state}, Internal.{occupied}, Line.{turn}}
 use Rattle.osek_standard.specs.Priority.{IsBest, base_priority, ceiling, current_priority, highest}
 use Rattle.kernel_guarantees.specs.Underway.{IsStacked, has_begun, is_current, is_first, is_underway}
+use Rattle.kernel_guarantees.proofs.Greatest.{greatest_from}
 
 and_first : (b c : Bool) → (b && c) ≡ true → b ≡ true
 and_first true c e = refl
@@ -19,11 +19,7 @@ module _ (app : App) where
   -- the greatest of the base and some ceilings is at least each of them
   base_or_more : (p : ℕ) (resources : List ResNo) → p ≤ highest app p resources
   unfolding highest
-  base_or_more p [] = omega arith
-  base_or_more p (r ∷ resources) = let more : max p (ceiling app r.0) ≤ fold (λ p r. max p (ceiling app r.0)) (max p (ceiling app r.0)) resources = above (max p (ceiling app r.0)) resources in omega (arith, more) where
-    above : (n : ℕ) (xs : List ResNo) → n ≤ fold (λ p r. max p (ceiling app r.0)) n xs
-    above n [] = omega arith
-    above n (x ∷ xs) = omega (arith, above (max n (ceiling app x.0)) xs)
+  base_or_more p resources = greatest_from (λ (r : ResNo). ceiling app r.0) p resources
 
   pub none_is_base : (p : ℕ) (resources : List ResNo) (b : Bool) → (not (nat_eq (length resources) 0) || b) ≡ false → highest app p resources ≡ p
   unfolding highest
