@@ -10,7 +10,7 @@ use Rattle.oil_lexer.specs.Scan as scans
 use Rattle.oil_lexer.specs.Scan.{at_end, fault_of}
 use Rattle.oil_lexer.proofs.Splits.{split_push}
 
-depth_push : (d : ℕ) (done : List Token) (t : Token) → depth_from d (done ++ t ∷ []) ≡ deeper (depth_from d done) t.kind
+pub depth_push : (d : ℕ) (done : List Token) (t : Token) → depth_from d (done ++ t ∷ []) ≡ deeper (depth_from d done) t.kind
 depth_push d [] t = refl
 depth_push d (x ∷ done) t = depth_push (deeper d x.kind) done t
 

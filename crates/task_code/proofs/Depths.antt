@@ -8,16 +8,13 @@ use Rattle.task_code.specs.declared.{call.{Call.{Call}, Reference.{Reference}}, 
 use Rattle.task_code.specs.{Statements.{Statements}, Fit.{depth, AreFit}}
 use Rattle.task_code.specs.Grammar.{IsMask, last_event, more_events, IsCall, plain, object, mask, set_event, alarm, shutdown, IsCondition, choice, always, IsStatements, no_more, a_work, an_if, an_if_else, a_while, a_call, AreBodies, no_body, a_body}
 use Rattle.task_code.specs.Faults.{HasTree, HasCode}
+use Rattle.oil_lexer.proofs.FirstFault.{depth_push}
 use Rattle.task_code.proofs.FitLaws.{are_fit}
 
 -- each brace is opened where fewer than 32 are open
 abbrev Shallow : ℕ → List Token → Type 0
 Shallow d [] = ⊤
 Shallow d (t ∷ ts) = (is_open t.kind ≡ true → d < 32) × Shallow (deeper d t.kind) ts
-
-depth_push : (d : ℕ) (prefix : List Token) (t : Token) → depth_from d (prefix ++ t ∷ []) ≡ deeper (depth_from d prefix) t.kind
-depth_push d [] t = refl
-depth_push d (u ∷ prefix) t = depth_push (deeper d u.kind) prefix t
 
 shallow : (code : Code) (tokens : List Token) → HasTree tokens code → (prefix ts : List Token) → tokens ≡ prefix ++ ts → Shallow (depth_from 0 prefix) ts
 shallow code tokens tree prefix [] e = tt
