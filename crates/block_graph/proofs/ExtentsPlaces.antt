@@ -13,7 +13,7 @@ use Rattle.task_code.specs.Fit.{AreFit, IsFit}
 use Rattle.block_graph.specs.Apps.{counters_from, counters_of, extent, isr_with, isrs_of, tables_over, task_with, tasks_of}
 use Rattle.block_graph.specs.{Blocks.{app_blocks, body_blocks, routine, routine_size, routines, size, source_blocks, source_size}, Faults.{HasNoFault}}
 use Rattle.block_graph.specs.Rules.{from_calls, is_code_of, is_kind}
-use Rattle.block_graph.proofs.OwnersLaws.{body_is_isr_code, body_is_owner, body_is_task_code, due_inside, routine_is_owner, routine_is_tick_code, routine_length, source_length}
+use Rattle.block_graph.proofs.{OwnersLaws.{body_is_isr_code, body_is_owner, body_is_task_code, routine_is_owner, routine_is_tick_code, routine_length, source_length}, OwnersTicks.{due_below}}
 use Rattle.block_graph.proofs.ExtentsLists.{behind_front}
 use Rattle.block_graph.proofs.OwnersCalls.{wrong_names}
 use Rattle.block_graph.proofs.ExtentsRules.{isrs_have_code, names_declared, tasks_have_code}
@@ -209,11 +209,11 @@ pub counter_is_owner : (s : System) (bodies : List Body) (i : ℕ) (d : Counter)
 counter_is_owner s bodies =
     routines_keep s bodies (λ c first count. IsOwner (tables_over s bodies (app_blocks s bodies)) first count)
     (λ c n pre post place all.
-    subst (λ blocks. IsOwner (tables_over s bodies blocks) n (routine_size (due_of s.alarms c))) all (routine_is_owner s bodies pre post (due_of s.alarms c) n place (due_inside s.alarms c)))
+    subst (λ blocks. IsOwner (tables_over s bodies blocks) n (routine_size (due_of s.alarms c))) all (routine_is_owner s bodies pre post (due_of s.alarms c) n place (due_below s.alarms c)))
 
 pub tick_code : (s : System) (bodies : List Body) (i : ℕ) (d : Counter) → i < length (counters_of s bodies)
     → IsTickCode (tables_over s bodies (app_blocks s bodies)) (due_of s.alarms i) (slice_index_or (counters_of s bodies) i d).first.0 (slice_index_or (counters_of s bodies) i d).count
 tick_code s bodies =
     routines_keep s bodies (λ c first count. IsTickCode (tables_over s bodies (app_blocks s bodies)) (due_of s.alarms c) first count)
     (λ c n pre post place all.
-    subst (λ blocks. IsTickCode (tables_over s bodies blocks) (due_of s.alarms c) n (routine_size (due_of s.alarms c))) all (routine_is_tick_code s bodies pre post (due_of s.alarms c) n place (due_inside s.alarms c)))
+    subst (λ blocks. IsTickCode (tables_over s bodies blocks) (due_of s.alarms c) n (routine_size (due_of s.alarms c))) all (routine_is_tick_code s bodies pre post (due_of s.alarms c) n place (due_below s.alarms c)))

@@ -1,41 +1,12 @@
 -- The locks with which control flow comes to a place are those that the order of the text gives it.
-use Rattle.std.proofs.Common.{◌≡◌, ℕ, Bool, true, false, if◌then◌else◌, List, [], ◌∷◌, Option, Some, None, Result, Ok, Err, refl, sym, subst, ap, ◌∙◌}
+use Rattle.std.proofs.Common.{◌≡◌, ℕ, Bool, true, false, if◌then◌else◌, List, [], ◌∷◌, Some, None, Ok, refl, sym, subst, ap, ◌∙◌}
 use Rattle.std.specs.Prelude.{unwrap_or}
 use Rattle.oil_system.specs.declared.system.System.{System}
 use Rattle.task_code.specs.{declared.{call.Call.{Call, TheVariants.{LockCall}}, tree.Body.{Body}}, Statements.{Statements, call_then, closing_line}}
 use Rattle.block_graph.specs.{declared.locks.{Opener.{Opener}, Role.{Role, TheVariants.{Opens, Closes}}}, Blocks.{is_locked}}
-use Rattle.block_graph.specs.Locks.{are_same, behind_call as behind_the_call, behind_role, both_close, closes, goes_on, may_open, is_last, open_behind, open_behind_by, role_of, unlocked_call, unpaired, unpaired_by, walked}
+use Rattle.block_graph.specs.Locks.{behind_call as behind_the_call, behind_role, may_open, is_last, open_behind, role_of, unlocked_call, unpaired, walked}
 use Rattle.block_graph.specs.Follows.{Rest, behind_work, behind_if, behind_if_else, behind_while, behind_call, Branch, only, first, other, Way, start, past, into_branch, into_loop, Place, statement, brace, Enters, a_statement, no_more, Ends, of_body, of_branch, of_loop, of_rest, GoesTo, a_work, a_call, a_branch, no_else, a_loop, one_more, enough, after_role, after_first, Comes, from_start, from_statement, block_at, LocksFollow}
-use Rattle.block_graph.proofs.{FollowsBlocks.{brace_at, locked_at, locks_at, locks_past}, Openers.{equal}}
-
--- ---- a walk that doesn't fail
-
-abbrev Walk : Type 0
-Walk = Result (List Opener) ℕ
-
-taken : (test : Bool) (walk : Walk) (line : ℕ) (end : List Opener) → (if test then walk else Err line) ≡ Ok end → (test ≡ true) × (walk ≡ Ok end)
-taken true walk line end e = (refl, e)
-taken false walk line end e = absurd cc
-
--- a closing brace found the wanted locks
-closed_with : (walk : Walk) (wanted : List Opener) (line : ℕ) (next : List Opener → Walk) (end : List Opener) → closes walk wanted line next ≡ Ok end → (walk ≡ Ok wanted) × (next wanted ≡ Ok end)
-closed_with (Err failing) wanted line next end e = absurd cc
-closed_with (Ok locks) wanted line next end e =
-    let found = taken (are_same locks wanted) (next locks) line end e in
-    let same : locks ≡ wanted = equal locks wanted found.0 in
-    (ap Ok same, subst (λ l. next l ≡ Ok end) same found.1)
-
--- and that of an `else` what the first branch left
-both_closed : (locks : List Opener) (walk second : Walk) (line : ℕ) (next : List Opener → Walk) (end : List Opener)
-    → both_close walk second line next ≡ Ok end → let left = open_behind_by locks walk in (walk ≡ Ok left) × (second ≡ Ok left) × (next left ≡ Ok end)
-both_closed locks (Err failing) second line next end e = absurd cc
-both_closed locks (Ok left) second line next end e = let found = closed_with second left line next end e in (refl, found.0, found.1)
-
--- a call was allowed
-called : (locks : List Opener) (behind : Option (List Opener)) (line : ℕ) (next : List Opener → Walk) (end : List Opener)
-    → goes_on behind line next ≡ Ok end → let left = unwrap_or behind locks in (behind ≡ Some left) × (next left ≡ Ok end)
-called locks None line next end e = absurd cc
-called locks (Some left) line next end e = (refl, e)
+use Rattle.block_graph.proofs.{FollowsBlocks.{brace_at, locked_at, locks_at, locks_past}, PairedLocks.{both_closed, called, closed_with, paired_by}}
 
 -- ---- calls
 
@@ -148,11 +119,6 @@ same_at brace locks others here there = here ∙ sym there
 block_locked : (s : System) (body : Body) (n : ℕ) (p : Place body.statements) (locks : List Opener) → AreAt p locks → (block_at s body n p).locked ≡ is_locked locks
 block_locked s body n (statement w) locks here = locked_at s body n here.1 w ∙ ap is_locked (sym here.2)
 block_locked s body n brace locks here = ap (λ x. x.locked) (brace_at s body n) ∙ ap is_locked (sym here)
-
-paired_by : (walk : Walk) (close : ℕ) → unpaired_by walk close ≡ [] → walk ≡ Ok []
-paired_by (Err line) close e = absurd cc
-paired_by (Ok []) close e = refl
-paired_by (Ok (opener ∷ more)) close e = absurd cc
 
 pub follow : (s : System) (body : Body) (n : ℕ) → unpaired body ≡ [] → LocksFollow s body n
 follow s body n none =

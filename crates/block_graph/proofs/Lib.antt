@@ -19,5 +19,6 @@ pub mod OwnersEach
 pub mod OwnersLaws
 pub mod OwnersStatements
 pub mod OwnersTicks
+pub mod PairedLocks
 pub mod SomeAnswer
 pub mod Valid

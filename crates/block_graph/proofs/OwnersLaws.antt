@@ -2,8 +2,8 @@
 use Rattle.std.proofs.Common.{◌≡◌, ℕ, ◌+◌, ◌<◌, ◌≤◌, Bool, false, eqb, List, [], ◌∷◌, ◌++◌, length, get_or, refl, sym, subst, arith, IsTrue, length-append}
 use Rattle.std.specs.Prelude.{All}
 use Rattle.std.proofs.lemmas.{Bool.{eq-eqb, ne_eqb}, List.Sums.{sum_by-cons}}
-use Rattle.oil_system.specs.declared.{objects.Alarm.{Alarm}, system.System.{System}}
-use Rattle.osek_standard.specs.{declared.block.Block.{Block}, Validity.{IsIsrCode, IsOwner, IsTaskCode, IsTickCode, due_of, isr_may, no_block, task_may}}
+use Rattle.oil_system.specs.declared.system.System.{System}
+use Rattle.osek_standard.specs.{declared.block.Block.{Block}, Validity.{IsIsrCode, IsOwner, IsTaskCode, IsTickCode, isr_may, no_block, task_may}}
 use Rattle.oil_model.specs.Linkable.{IsLinkable}
 use Rattle.task_code.specs.declared.tree.{Body.{Body}, BodyKind.{BodyKind}}
 use Rattle.task_code.specs.declared.tree.BodyKind.TheVariants as body_kind
@@ -13,7 +13,7 @@ use Rattle.block_graph.specs.Rules.{from_calls}
 use Rattle.block_graph.proofs.OwnersCalls.{wrong_names}
 use Rattle.block_graph.proofs.OwnersEach.{AllFrom, all_from_append, all_from_at, all_from_weaker}
 use Rattle.block_graph.proofs.OwnersStatements.{Good, InIsr, InTask, IsGood, Lie, blocks_are_good, blocks_in_isr, blocks_in_task, blocks_length}
-use Rattle.block_graph.proofs.OwnersTicks.{GoesOn, InRoutine, due_below, expiries_length, routine_goes_on, routine_is_good, routine_stands}
+use Rattle.block_graph.proofs.OwnersTicks.{GoesOn, InRoutine, expiries_length, routine_goes_on, routine_is_good, routine_stands}
 
 -- ---- how many blocks there are
 
@@ -30,10 +30,6 @@ source_length s (body ∷ more) n =
 
 pub routine_length : (due : List ℕ) (n : ℕ) → length (routine due n) ≡ routine_size due
 routine_length due n = omega (arith, expiries_length due (n + 1))
-
--- the alarms of a counter are among the alarms
-pub due_inside : (alarms : List Alarm) (c : ℕ) → All (λ (a : ℕ). a < length alarms) (due_of alarms c)
-due_inside alarms c = due_below alarms c
 
 -- ---- the blocks of an owner at their place
 

@@ -1,6 +1,6 @@
 -- In code whose locks pair, no service but a lock is called while one is open.
-use Rattle.std.proofs.Common.{◌≡◌, ℕ, ◌+◌, Bool, true, false, if◌then◌else◌, List, [], ◌∷◌, ◌++◌, length, refl, sym, ap, ◌∙◌, subst, inl, inr}
-use Rattle.std.specs.{Prelude.{Option, Some, None, Result, Ok, Err, unwrap_or}, List.{AllByRecursion}}
+use Rattle.std.proofs.Common.{◌≡◌, ℕ, ◌+◌, true, false, List, [], ◌∷◌, ◌++◌, length, refl, sym, ap, ◌∙◌, subst, inl, inr}
+use Rattle.std.specs.{Prelude.{Some, Ok}, List.{AllByRecursion}}
 use Rattle.std.proofs.lemmas.{Bool.{cases_lt, false≢true}, List.{get_or_past, Elements.{All-from_recursion}}}
 use Rattle.osek_values.{proofs.Lists.{each_append}, specs.declared.refusal.CodeRule.TheVariants.{C7}}
 use Rattle.oil_system.specs.declared.system.{CounterObject.{CounterObject}, System.{System}}
@@ -11,8 +11,8 @@ use Rattle.task_code.specs.declared.{call.Call.{Call, TheVariants.{LockCall}}, t
 use Rattle.task_code.specs.Statements.{Statements, closed, work_then, if_then, if_else_then, while_then, call_then, closing_line, nodes}
 use Rattle.block_graph.specs.{Apps.{HasApp}, Rules.{unpaired_locks}, declared.locks.Opener.{Opener}}
 use Rattle.block_graph.specs.Blocks.{app_blocks, blocks_of, body_blocks, entry, expiries, is_locked, kind_of, routine, routine_size, routines, size, source_blocks, source_size}
-use Rattle.block_graph.specs.Locks.{are_same, behind_call, both_close, closes, goes_on, open_behind, open_behind_by, open_behind_call, unpaired, unpaired_by, walked}
-use Rattle.block_graph.proofs.Openers.{equal}
+use Rattle.block_graph.specs.Locks.{behind_call, open_behind, open_behind_call, unpaired, walked}
+use Rattle.block_graph.proofs.PairedLocks.{both_closed, called, closed_with, paired_by}
 use Rattle.kernel_guarantees.specs.Conditions.{HasQuietLocks, is_quiet}
 
 abbrev IsQuietBlock : Block → Type 0
@@ -20,34 +20,6 @@ IsQuietBlock x = x.locked ≡ true → is_quiet x.kind ≡ true
 
 abbrev AreQuiet : List Block → Type 0
 AreQuiet xs = AllByRecursion IsQuietBlock xs
-
--- ---- a walk that doesn't fail
-
-abbrev Walk : Type 0
-Walk = Result (List Opener) ℕ
-
-passed : (test : Bool) (walk : Walk) (line : ℕ) (end : List Opener) → (if test then walk else Err line) ≡ Ok end → (test ≡ true) × (walk ≡ Ok end)
-passed true walk line end e = (refl, e)
-passed false walk line end e = absurd cc
-
--- a brace closes with the locks that are wanted there
-closed_with : (walk : Walk) (wanted : List Opener) (line : ℕ) (next : List Opener → Walk) (end : List Opener) → closes walk wanted line next ≡ Ok end
-    → (walk ≡ Ok wanted) × (next wanted ≡ Ok end)
-closed_with (Err failing) wanted line next end e = absurd cc
-closed_with (Ok locks) wanted line next end e =
-    let found = passed (are_same locks wanted) (next locks) line end e in
-    let same : locks ≡ wanted = equal locks wanted found.0 in
-    (ap Ok same, subst (λ (l : List Opener). next l ≡ Ok end) same found.1)
-
-both_closed : (locks : List Opener) (walk second : Walk) (line : ℕ) (next : List Opener → Walk) (end : List Opener) → both_close walk second line next ≡ Ok end
-    → let left = open_behind_by locks walk in (walk ≡ Ok left) × (second ≡ Ok left) × (next left ≡ Ok end)
-both_closed locks (Err failing) second line next end e = absurd cc
-both_closed locks (Ok left) second line next end e = let found = closed_with second left line next end e in (refl, found.0, found.1)
-
-gone_on : (locks : List Opener) (behind : Option (List Opener)) (line : ℕ) (next : List Opener → Walk) (end : List Opener) → goes_on behind line next ≡ Ok end
-    → let left = unwrap_or behind locks in (behind ≡ Some left) × (next left ≡ Ok end)
-gone_on locks None line next end e = absurd cc
-gone_on locks (Some left) line next end e = (refl, e)
 
 -- ---- the blocks of code
 
@@ -93,19 +65,14 @@ module _ (s : System) where
             (statements_quiet next behind after locks end walks.1),
       )
   statements_quiet (call_then line call next) n after locks end e =
-      let walk = gone_on locks (behind_call locks call) line (walked next) end e in
+      let walk = called locks (behind_call locks call) line (walked next) end e in
       (call_quiet locks (open_behind_call locks call) call walk.0, statements_quiet next (n + 1) after (open_behind_call locks call) end walk.1)
-
-  paired : (walk : Walk) (close : ℕ) → unpaired_by walk close ≡ [] → walk ≡ Ok []
-  paired (Err line) close e = absurd cc
-  paired (Ok []) close e = refl
-  paired (Ok (opener ∷ more)) close e = absurd cc
 
   body_quiet : (body : Body) (n : ℕ) → unpaired body ≡ [] → AreQuiet (body_blocks s body n)
   body_quiet body n none =
       let end = n + nodes body.statements in
       each_append IsQuietBlock (blocks_of s body.statements n end []) _
-      (statements_quiet body.statements n end [] [] (paired (walked body.statements []) (closing_line body.statements) none))
+      (statements_quiet body.statements n end [] [] (paired_by (walked body.statements []) (closing_line body.statements) none))
       ((λ h. absurd (false≢true h)), tt)
 
   source_quiet : (bodies : List Body) (n : ℕ) → AllByRecursion (λ (body : Body). unpaired body ≡ []) bodies → AreQuiet (source_blocks s bodies n)
