@@ -13,9 +13,9 @@ use Rattle.table_codec.specs.{declared.fault.Fault.{Fault}, Spelling.{set_bytes,
 use Rattle.table_codec.specs.{Sets.{IsReadEntry}, Rows.{IsReadRow}}
 use Rattle.table_codec.proofs.{Sequences.{Runs, one_run, no_fault, one_fault}, SetFaults.{one_set, set_clash, one_set_fault}}
 
-no_sets : (ks : List Component) → sets_bytes ks [] ≡ []
-no_sets [] = refl
-no_sets (k ∷ ks) = refl
+pub no_bytes : (ks : List Component) → sets_bytes ks [] ≡ []
+no_bytes [] = refl
+no_bytes (k ∷ ks) = refl
 
 pub more_sets : (k : Component) (ks : List Component) (vs : List PartValue) (sets : List (List PartValue)) → sets_bytes (k ∷ ks) (vs ∷ sets) ≡ set_bytes k vs ++ sets_bytes ks sets
 more_sets k ks vs sets = flat_map-cons (λ (d : Component × List PartValue). set_bytes d.0 d.1) (k, vs) (zip ks sets)
@@ -61,7 +61,7 @@ module _ (app : App) (p : Point) where
 
   runs_from : (done ks : List Component) (before sets : List (List PartValue)) (bytes rest : List ℕ) → components app ≡ done ++ ks → length before ≡ length done → length sets ≤ length ks
       → GoodFrom (length before) sets → bytes ≡ sets_bytes ks sets ++ rest → Runs Reads before bytes sets rest
-  runs_from done ks before [] bytes rest is size few good e = e ∙ ap (λ (l : List ℕ). l ++ rest) (no_sets ks)
+  runs_from done ks before [] bytes rest is size few good e = e ∙ ap (λ (l : List ℕ). l ++ rest) (no_bytes ks)
   runs_from done [] before (vs ∷ sets) bytes rest is size few good e = absurd (omega (arith, few))
   runs_from done (k ∷ ks) before (vs ∷ sets) bytes rest is size few good e =
       let here : place_of before ≡ k

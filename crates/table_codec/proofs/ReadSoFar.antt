@@ -12,7 +12,7 @@ use Rattle.abstract_state.proofs.{ComponentLaws.{component_known}, OrderLaws.{as
 use Rattle.numbered_sets.specs.Pools.{no_values as none_seen, pool_domains}
 use Rattle.table_codec.specs.{Spelling.{value_bytes, set_bytes, sets_bytes}, Faults.{IsGoodSet, AreGoodSets}}
 use Rattle.table_codec.specs.Sets.{IsNextValue, IsReadSet}
-use Rattle.table_codec.proofs.EntryFaults.{more_sets}
+use Rattle.table_codec.proofs.EntryFaults.{more_sets, no_bytes}
 
 pub one_more_flat : {X : Type 0} (f : X → List ℕ) (xs : List X) (x : X) → flat_map f (xs ++ x ∷ []) ≡ flat_map f xs ++ f x
 one_more_flat f xs x = flat_map-append f xs (x ∷ []) ∙ ap (λ (l : List ℕ). flat_map f xs ++ l) (append-nil (f x))
@@ -58,11 +58,7 @@ empty_domains (d ∷ ds) = ap (λ (es : List Domain). d ∷ es) (empty_domains d
 -- the sets of some components and of the next one
 sets_push : (ks : List Component) (k : Component) (sets : List (List PartValue)) (vs : List PartValue) → length sets < length ks → get_or ks (length sets) k ≡ k → sets_bytes ks (sets ++ vs ∷ []) ≡ sets_bytes ks sets ++ set_bytes k vs
 sets_push [] k sets vs few at = absurd (omega (arith, few))
-sets_push (c ∷ ks) k [] vs few at = more_sets c ks vs [] ∙ ap (λ (l : List ℕ). set_bytes c vs ++ l) (none ks) ∙ append-nil (set_bytes c vs) ∙ ap (λ (d : Component). set_bytes d vs) at
-  where
-    none : (cs : List Component) → sets_bytes cs [] ≡ []
-    none [] = refl
-    none (d ∷ cs) = refl
+sets_push (c ∷ ks) k [] vs few at = more_sets c ks vs [] ∙ ap (λ (l : List ℕ). set_bytes c vs ++ l) (no_bytes ks) ∙ append-nil (set_bytes c vs) ∙ ap (λ (d : Component). set_bytes d vs) at
 sets_push (c ∷ ks) k (ws ∷ sets) vs few at =
     more_sets c ks ws (sets ++ vs ∷ []) ∙ ap (λ (l : List ℕ). set_bytes c ws ++ l) (sets_push ks k sets vs (omega (arith, few)) at)
     ∙ sym (append_assoc (set_bytes c ws) (sets_bytes ks sets) (set_bytes k vs)) ∙ ap (λ (l : List ℕ). l ++ set_bytes k vs) (sym (more_sets c ks ws sets))
@@ -84,10 +80,6 @@ module _ (app : App) (p : Point) (bytes : List ℕ) where
     pub good : AreGoodSets app p (members sets)
     pub domains : map (λ (set : ValueSet). set.domain) sets ≡ map (domain_of app) (take (length sets) (components app))
     pub are : bytes ≡ sets_bytes (components app) (members sets) ++ rest
-
-  no_bytes : (ks : List Component) → sets_bytes ks [] ≡ []
-  no_bytes [] = refl
-  no_bytes (k ∷ ks) = refl
 
   pub no_sets : AreSetsSoFar [] bytes
   no_sets = record { good = λ c vs e. absurd (cc); domains = refl; are = ap (λ (l : List ℕ). l ++ bytes) (sym (no_bytes (components app))) }

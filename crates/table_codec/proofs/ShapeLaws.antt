@@ -7,10 +7,7 @@ use Rattle.osek_standard.specs.declared.{app.App.{App}, objects.Task.{Task}, poi
 use Rattle.osek_standard.specs.declared.point.Point.TheVariants as point
 use Rattle.osek_standard.specs.{Apps.{the_task, no_task}, Well.{IsOwn, IsWaitingAt}}
 use Rattle.abstract_state.specs.{declared.value.{LiveVal.{LiveVal}, Val.{Val, TheVariants.{Suspended, Live, Waiting}}}, Components.{FitsPoint}, ValueOrder.{flag_field}}
-use Rattle.table_codec.specs.{declared.shape.Shape.{Shape}, Shapes.{IsFlag, IsShape, is_over, RunsAt, RunsNowhere}}
-
-one_block : (a b : BlockNo) → a.0 ≡ b.0 → a ≡ b
-one_block a b e = ap block_no e
+use Rattle.table_codec.specs.{declared.shape.Shape.{Shape}, Shapes.{IsFlag, IsShape, is_over, HasProcessorAt, HasProcessorNowhere}}
 
 is_not : (b : Bool) → IsTrue (not b) → b ≡ false
 is_not true h = absurd (cc)
@@ -74,7 +71,7 @@ module _ (app : App) (t : TaskNo) (known : t.0 < length app.tasks) where
           let same : v.block.0 ≡ b.0 = omega (arith, h.among.0, h.among.1) in
           let shape = running_shape (point.Task b) b in (
             record { own = subst (IsOwn app t.0) (sym same) own; further = h.further; named = named_only shape v.inside h.flag; stack = h.stack },
-            λ _. (one_block v.block b same, flag_right shape v.inside refl h.flag),
+            λ _. (ap block_no same, flag_right shape v.inside refl h.flag),
           ),
       λ h.
           let there = h.1 own in
@@ -87,10 +84,10 @@ module _ (app : App) (t : TaskNo) (known : t.0 < length app.tasks) where
     waits = (λ e. absurd (cc), λ h. absurd (h.1.1 own));
   }
 
-  pub running : (p : Point) (b : BlockNo) → RunsAt app p t.0 b → IsShape app (running_shape p b)
+  pub running : (p : Point) (b : BlockNo) → HasProcessorAt app p t.0 b → IsShape app (running_shape p b)
   running p b h = subst (λ (q : Point). IsShape app (running_shape q b)) (sym h.at) (at_block b h.own)
 
-  free_fits : (p : Point) (v : Val) → RunsNowhere app p t.0 → is_over p t.0 ≡ false → FitsPoint app p t.0 v
+  free_fits : (p : Point) (v : Val) → HasProcessorNowhere app p t.0 → is_over p t.0 ≡ false → FitsPoint app p t.0 v
   free_fits point.Halted v none e = tt
   free_fits point.Idle v none e = tt
   free_fits (point.Task b) v none e = λ own. absurd (none b (record { at = refl; own = own }))
@@ -133,7 +130,8 @@ module _ (app : App) (t : TaskNo) (known : t.0 < length app.tasks) where
   shape_at p waits = elsewhere_shape p (not (is_over p t.0)) waits
 
   -- elsewhere a Live task fits the point where its flag is the shape's
-  live_fits : (p : Point) (waits : Bool) (v : LiveVal) → RunsNowhere app p t.0 → IsFlag (shape_at p waits) (flag_field v.inside) → FitsPoint app p t.0 (Live v)
+  live_fits : (p : Point) (waits : Bool) (v : LiveVal) → HasProcessorNowhere app p t.0 → IsFlag (shape_at p waits) (flag_field v.inside)
+      → FitsPoint app p t.0 (Live v)
   live_fits point.Halted waits v none h = tt
   live_fits point.Idle waits v none h = tt
   live_fits (point.Task b) waits v none h = λ own. absurd (none b (record { at = refl; own = own }))
@@ -150,7 +148,7 @@ module _ (app : App) (t : TaskNo) (known : t.0 < length app.tasks) where
     | inr other ↦ free_flag (shape_at (point.Routine b (Some u)) waits) v.inside (ap not other) named
   ]
 
-  pub elsewhere : (p : Point) (waits : Bool) → RunsNowhere app p t.0
+  pub elsewhere : (p : Point) (waits : Bool) → HasProcessorNowhere app p t.0
       → (IsTrue waits ↔ (IsTrue (not (is_over p t.0)) × ((b : BlockNo) × IsWaitingAt app t.0 b.0))) → IsShape app (elsewhere_shape p (not (is_over p t.0)) waits)
   elsewhere p waits none w = record {
     known = known;
@@ -172,12 +170,12 @@ module _ (app : App) (t : TaskNo) (known : t.0 < length app.tasks) where
   abbrev read_shape : Point → (is_free waits : Bool) → BlockNo → ℕ → Task → Bool → Shape
   read_shape p is_free waits first count x named = record { point = p; task = t; is_free = is_free; waits = waits; first = first; count = count; activation = x.activation; named = named }
 
-  pub running_is : (p : Point) (b : BlockNo) (x : Task) (named : Bool) → the_task app t.0 ≡ x → named ≡ is_some x.internal → RunsAt app p t.0 b → IsShape app (read_shape p false false b 1 x named)
+  pub running_is : (p : Point) (b : BlockNo) (x : Task) (named : Bool) → the_task app t.0 ≡ x → named ≡ is_some x.internal → HasProcessorAt app p t.0 b → IsShape app (read_shape p false false b 1 x named)
   running_is p b x named e d h =
       subst (λ (y : Bool). IsShape app (read_shape p false false b 1 x y)) (sym d)
       (subst (λ (y : Task). IsShape app (read_shape p false false b 1 y (is_some y.internal))) e (running p b h))
 
-  pub elsewhere_is : (p : Point) (over waits : Bool) (x : Task) (named : Bool) → over ≡ is_over p t.0 → the_task app t.0 ≡ x → named ≡ is_some x.internal → RunsNowhere app p t.0
+  pub elsewhere_is : (p : Point) (over waits : Bool) (x : Task) (named : Bool) → over ≡ is_over p t.0 → the_task app t.0 ≡ x → named ≡ is_some x.internal → HasProcessorNowhere app p t.0
       → (IsTrue waits ↔ (IsTrue (not over) × ((b : BlockNo) × IsWaitingAt app t.0 b.0))) → IsShape app (read_shape p (not over) waits x.first x.count x named)
   elsewhere_is p over waits x named o e d none w =
       let free : IsTrue waits ↔ (IsTrue (not (is_over p t.0)) × ((b : BlockNo) × IsWaitingAt app t.0 b.0)) = subst (λ (y : Bool). IsTrue waits ↔ (IsTrue (not y) × ((b : BlockNo) × IsWaitingAt app t.0 b.0))) o w in

@@ -7,7 +7,7 @@ use Rattle.osek_standard.specs.declared.block.Kind.TheVariants as kind
 use Rattle.image_model.specs.CallNames as call
 use Rattle.osek_standard.specs.{Apps.{the_task, the_block, is_extended, source_count, routine_start, routine_count}, Well.{IsOwn, IsOfRoutine, IsWaitEvent, IsWaitingAt}}
 use Rattle.osek_standard.proofs.WellLaws.{own_known}
-use Rattle.table_codec.specs.{declared.{shape.Shape.{Shape}, source_shape.SourceShape.{SourceShape}}, Shapes.{IsShape, is_over, RunsAt, RunsNowhere}, SourceShapes.{IsSourceShape}}
+use Rattle.table_codec.specs.{declared.{shape.Shape.{Shape}, source_shape.SourceShape.{SourceShape}}, Shapes.{IsShape, is_over, HasProcessorAt, HasProcessorNowhere}, SourceShapes.{IsSourceShape}}
 use Rattle.table_codec.proofs.SourceShapeLaws.{whole_shape, block_shape, outside, at_its_block, beside}
 use Rattle.table_codec.proofs.{Decisions.{Decided, decide_both, decide_less, decide_at_most, decide_true, some_below}, ShapeLaws.{running_shape, running, elsewhere_shape, elsewhere}}
 
@@ -34,7 +34,7 @@ module _ (app : App) (t : TaskNo) (known : t.0 < length app.tasks) where
     | inr none ↦ inr (λ h. none h.0.0 (own_known app t.0 h.0.0 known h.1.own) h.1)
   ]
 
-  runs_or_not : (p : Point) → ((b : BlockNo) × RunsAt app p t.0 b) ⊎ RunsNowhere app p t.0
+  runs_or_not : (p : Point) → ((b : BlockNo) × HasProcessorAt app p t.0 b) ⊎ HasProcessorNowhere app p t.0
   runs_or_not point.Halted = inr (λ b h. let e = h.at in cc)
   runs_or_not point.Idle = inr (λ b h. let e = h.at in cc)
   runs_or_not (point.Task b) = elim (decide_own b.0) [
@@ -47,7 +47,7 @@ module _ (app : App) (t : TaskNo) (known : t.0 < length app.tasks) where
   pub some_shape : (p : Point) → (x : Shape) × IsShape app x × (x.point ≡ p) × (x.task ≡ t)
   some_shape p = by_place (runs_or_not p) (decide_both (decide_true (not (is_over p t.0))) decide_may_wait)
     where
-      by_place : ((b : BlockNo) × RunsAt app p t.0 b) ⊎ RunsNowhere app p t.0 → Decided (IsTrue (not (is_over p t.0)) × ((b : BlockNo) × IsWaitingAt app t.0 b.0)) → (x : Shape) × IsShape app x × (x.point ≡ p) × (x.task ≡ t)
+      by_place : ((b : BlockNo) × HasProcessorAt app p t.0 b) ⊎ HasProcessorNowhere app p t.0 → Decided (IsTrue (not (is_over p t.0)) × ((b : BlockNo) × IsWaitingAt app t.0 b.0)) → (x : Shape) × IsShape app x × (x.point ≡ p) × (x.task ≡ t)
       by_place (inl at) waits = (running_shape app t known p at.0, running app t known p at.0 at.1, refl, refl)
       by_place (inr none) (inl waits) = (elsewhere_shape app t known p (not (is_over p t.0)) true, elsewhere app t known p true none (λ e. waits, λ h. refl), refl, refl)
       by_place (inr none) (inr bars) = (elsewhere_shape app t known p (not (is_over p t.0)) false, elsewhere app t known p false none (λ e. absurd (cc), λ h. absurd (bars h)), refl, refl)

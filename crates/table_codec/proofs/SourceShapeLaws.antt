@@ -12,14 +12,11 @@ use Rattle.abstract_state.specs.declared.value.Component.TheVariants as componen
 use Rattle.abstract_state.specs.declared.value.SourceVal.TheVariants as source_val
 use Rattle.abstract_state.specs.Components.{IsRoutineVal, IsPart}
 use Rattle.abstract_state.proofs.TakableStacks.{few_on_stack}
-use Rattle.table_codec.specs.{declared.source_shape.SourceShape.{SourceShape}, Kept.{IsFree}, SourceShapes.{IsSourceShape, routine_at, most_held}}
+use Rattle.table_codec.specs.{declared.source_shape.SourceShape.{SourceShape}, Kept.{BarsNoValue}, SourceShapes.{IsSourceShape, routine_at, most_held}}
 
 no_held : (h : List ResNo) → length h ≤ 0 → h ≡ []
 no_held [] le = refl
 no_held (r ∷ h) le = absurd (omega (arith, le))
-
-same_block : (a b : BlockNo) → a.0 ≡ b.0 → a ≡ b
-same_block a b e = ap block_no e
 
 module _ (app : App) (k : SourceNo) (known : k.0 < source_count app) where
   abbrev Most : Bool → ℕ
@@ -84,7 +81,7 @@ module _ (app : App) (k : SourceNo) (known : k.0 < source_count app) where
         λ h.
             let same : x.block.0 ≡ b.0 = omega (arith, h.among.0, h.among.1) in (
               record { own = subst (IsOfRoutine app k.0) (sym same) own; stack = h.stack; none = holds_none x h.few },
-              λ _. same_block x.block b same,
+              λ _. ap block_no same,
             ),
         λ h.
             let same : x.block.0 ≡ b.0 = ap (λ (c : BlockNo). c.0) (h.1 own) in
@@ -142,7 +139,7 @@ module _ (app : App) (k : SourceNo) (known : k.0 < source_count app) where
             subst (λ (d : BlockNo). IsSourceShape app (block_shape (point.Routine d over) b)) (sym same) (at_its_block b over own)
 
   -- at a block of another's it may be what it may be anywhere
-  pub free_beside : (p : Point) (b : BlockNo) → Some b ≡ routine_at p → (IsOfRoutine app k.0 b.0 → ⊥) → IsFree app p (component.Source k)
+  pub free_beside : (p : Point) (b : BlockNo) → Some b ≡ routine_at p → (IsOfRoutine app k.0 b.0 → ⊥) → BarsNoValue app p (component.Source k)
   free_beside point.Halted b e other = absurd (cc)
   free_beside point.Idle b e other = absurd (cc)
   free_beside (point.Task c) b e other = absurd (cc)

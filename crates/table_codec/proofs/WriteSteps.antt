@@ -8,7 +8,7 @@ use Rattle.abstract_state.specs.ValueOrder.{flag_field}
 use Rattle.numbered_sets.specs.{Numbers.{Numbers, has_number}, declared.table.NumberedRow.{NumberedRow}}
 use Rattle.table_codec.specs.{declared.ascending.NumberedValue.{NumberedValue}, Ascending.{values_in}, Spelling.{flag_number, resource_numbers, sets_bytes, value_bytes}}
 use Rattle.osek_values.specs.declared.limits.TheConstants.{MAX_TABLE}
-use Rattle.table_codec.specs.{declared.fault.WriteFault.{WriteFault, TheVariants.{TooLong, Memory}}, Writing.{Puts, all_in, merged_bytes}}
+use Rattle.table_codec.specs.{declared.fault.WriteFault.{WriteFault, TheVariants.{TooLong, Memory}}, Writing.{PutsBytes, all_in, merged_bytes}}
 use Rattle.table_codec.proofs.{Fields.{narrow_fields}, WriteLaws.{values_more, too_many}}
 
 -- ---- the values of a set
@@ -69,7 +69,7 @@ module _ (ks : List Component) (values : List (List NumberedValue)) (ps : List P
 -- ---- what is put next
 
 -- what was put before it stands before it; and where it would be too much, so would be all
-pub puts_on : (X : Type 0) (e : WriteFault) (start out after later piece more whole : List ℕ) → out ++ (piece ++ more) ≡ start ++ whole → Puts {X = X} (Err e) out after piece → Puts {X = X} (Err e) start later whole
+pub puts_on : (X : Type 0) (e : WriteFault) (start out after later piece more whole : List ℕ) → out ++ (piece ++ more) ≡ start ++ whole → PutsBytes {X = X} (Err e) out after piece → PutsBytes {X = X} (Err e) start later whole
 puts_on X TooLong start out after later piece more whole e lt = too_many MAX_TABLE out piece more whole start e lt
 puts_on X Memory start out after later piece more whole e lt = tt
 

@@ -8,8 +8,8 @@ use Rattle.numbered_sets.specs.{declared.numbered_entry.NumberedEntry.{NumberedE
 use Rattle.table_codec.specs.{Spelling.{set_bytes}, Faults.{IsGoodSet}}
 
 -- The point bars no value of the component that another one allows.
-abbrev pub IsFree : App → Point → Component → Type 0
-IsFree app p k = (q : Point) (v : PartValue) → IsPart app q k v → IsPart app p k v
+abbrev pub BarsNoValue : App → Point → Component → Type 0
+BarsNoValue app p k = (q : Point) (v : PartValue) → IsPart app q k v → IsPart app p k v
 
 -- the values of a set, and those before where it has none
 abbrev pub members_or : List PartValue → List PartValue → List PartValue

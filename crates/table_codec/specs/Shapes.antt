@@ -45,9 +45,9 @@ is_over (point.Routine b None) t = false
 is_over (point.Routine b (Some u)) t = u.0 == t
 
 -- the task has the processor at the block
-pub record RunsAt (app : App) (p : Point) (t : ℕ) (b : BlockNo) : Type 0 where
+pub record HasProcessorAt (app : App) (p : Point) (t : ℕ) (b : BlockNo) : Type 0 where
   pub at : p ≡ point.Task b
   pub own : IsOwn app t b.0
 
-abbrev pub RunsNowhere : App → Point → ℕ → Type 0
-RunsNowhere app p t = (b : BlockNo) → RunsAt app p t b → ⊥
+abbrev pub HasProcessorNowhere : App → Point → ℕ → Type 0
+HasProcessorNowhere app p t = (b : BlockNo) → HasProcessorAt app p t b → ⊥

@@ -10,10 +10,10 @@ use Rattle.osek_values.specs.declared.limits.TheConstants.{MAX_TABLE}
 use Rattle.table_codec.specs.{declared.fault.WriteFault.{WriteFault, TheVariants.{TooLong, Memory}}, Spelling.{value_bytes, flag_number, sets_bytes}}
 
 -- The bytes are put behind those that were there, or they would be too many then, or memory ran out.
-abbrev pub Puts : {X : Type 0} → Result X WriteFault → (before after bytes : List ℕ) → Type 0
-Puts (Ok x) before after bytes = after ≡ before ++ bytes
-Puts (Err TooLong) before after bytes = MAX_TABLE < length before + length bytes
-Puts (Err Memory) before after bytes = ⊤
+abbrev pub PutsBytes : {X : Type 0} → Result X WriteFault → (before after bytes : List ℕ) → Type 0
+PutsBytes (Ok x) before after bytes = after ≡ before ++ bytes
+PutsBytes (Err TooLong) before after bytes = MAX_TABLE < length before + length bytes
+PutsBytes (Err Memory) before after bytes = ⊤
 
 -- how many resources a value has on its stack
 abbrev pub stack_size : PartValue → ℕ

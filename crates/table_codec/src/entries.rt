@@ -3,7 +3,7 @@ ghost use Rattle.std.specs.{Prelude.{◌≡◌, ◌++◌, ◌<◌, ◌≤◌, le
 ghost use Rattle.osek_values.specs.Answers.{Refuses};
 ghost use Rattle.abstract_state.specs.Components.{components as components_of, component_count, IsComponent};
 ghost use Rattle.abstract_state.specs.declared.table.{ValueSet.{ValueSet as AValueSet}, PlainEntry.{PlainEntry as APlainEntry}};
-ghost use Rattle.table_codec.specs.{Faults.{IsEntryFault, IsSetFault}, Sets.{IsReadSet, IsReadEntry}, Kept.{IsFree, IsKept, AreKept, AreKeptBySome, set_or, filled}};
+ghost use Rattle.table_codec.specs.{Faults.{IsEntryFault, IsSetFault}, Sets.{IsReadSet, IsReadEntry}, Kept.{BarsNoValue, IsKept, AreKept, AreKeptBySome, set_or, filled}};
 
 use crate::fault::ReadError;
 use crate::reader::{Reader, Spelled};
@@ -24,7 +24,7 @@ fn skips_kept(
 ) -> bool
     requires { IsComponent app.now component }
     ensures some { OnTrue result (0 < length kept.now) }
-    ensures free { OnTrue result (IsFree app.now point component) }
+    ensures free { OnTrue result (BarsNoValue app.now point component) }
     ensures skipped { OnTrue result (reader.old ≡ kept.now ++ reader.new) }
     ensures same { OnFalse result (reader.new ≡ reader.old) }
 {

@@ -5,7 +5,7 @@ ghost use Rattle.osek_standard.specs.{Apps.{the_block}, Well.{IsOwn, IsWaitEvent
 ghost use Rattle.std.specs.Bool.{OnTrue};
 ghost use Rattle.abstract_state.specs.Components.{IsComponent};
 ghost use Rattle.abstract_state.specs.declared.value.Component.TheVariants as component;
-ghost use Rattle.table_codec.specs.{Kept.{IsFree}, Shapes.{IsShape, is_over, RunsAt, RunsNowhere}};
+ghost use Rattle.table_codec.specs.{Kept.{BarsNoValue}, Shapes.{IsShape, is_over, HasProcessorAt, HasProcessorNowhere}};
 
 use crate::source_shape::is_free_source;
 use abstract_state::Component;
@@ -75,7 +75,7 @@ impl Shape {
 /// Whether a component can be at a point what it can be at any other one.
 pub(crate) fn is_free(app: &App, point: Point, component: Component) -> bool
     requires { IsComponent app.now component }
-    ensures { OnTrue result (IsFree app.now point component) }
+    ensures { OnTrue result (BarsNoValue app.now point component) }
 {
     match component {
         Component::Task(task) => is_free_task(app, point, task),
@@ -86,7 +86,7 @@ pub(crate) fn is_free(app: &App, point: Point, component: Component) -> bool
 
 fn is_free_task(app: &App, point: Point, task: TaskNo) -> bool
     requires { task.0 < length app.now.tasks }
-    ensures { OnTrue result (IsFree app.now point (component.Task task)) }
+    ensures { OnTrue result (BarsNoValue app.now point (component.Task task)) }
 {
     running_at(app, point, task).is_none() && !is_interrupted(point, task)
 }
@@ -94,8 +94,8 @@ fn is_free_task(app: &App, point: Point, task: TaskNo) -> bool
 // the block at which a task has the processor
 fn running_at(app: &App, point: Point, task: TaskNo) -> Option<BlockNo>
     requires { task.0 < length app.now.tasks }
-    ensures runs { IfSome result (RunsAt app.now point task.0) }
-    ensures none { IfNone result (RunsNowhere app.now point task.0) }
+    ensures runs { IfSome result (HasProcessorAt app.now point task.0) }
+    ensures none { IfNone result (HasProcessorNowhere app.now point task.0) }
 {
     match point {
         Point::Task(block) => {

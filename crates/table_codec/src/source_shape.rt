@@ -2,7 +2,7 @@
 ghost use Rattle.std.specs.{Prelude.{◌≡◌, ◌↔◌, ◌<◌, IsTrue}, Bool.{OnTrue}};
 ghost use Rattle.osek_standard.specs.{Apps.{source_count}, Well.{IsOfRoutine}};
 ghost use Rattle.abstract_state.specs.declared.value.Component.TheVariants as component;
-ghost use Rattle.table_codec.specs.{Kept.{IsFree}, SourceShapes.{most_held as most_held_by, routine_at as routine_block}};
+ghost use Rattle.table_codec.specs.{Kept.{BarsNoValue}, SourceShapes.{most_held as most_held_by, routine_at as routine_block}};
 
 use crate::values::takable_count;
 use abstract_state::routine_size;
@@ -78,7 +78,7 @@ impl SourceShape {
 /// Whether a source can be at a point what it can be at any other one: another source's routine has the processor.
 pub(crate) fn is_free_source(app: &App, point: Point, source: SourceNo) -> bool
     requires { source.0 < source_count app.now }
-    ensures { OnTrue result (IsFree app.now point (component.Source source)) }
+    ensures { OnTrue result (BarsNoValue app.now point (component.Source source)) }
 {
     match routine_at(point) {
         None => false,

@@ -6,7 +6,7 @@ ghost use Rattle.numbered_sets.specs.{SetLists.{set_of}, declared.table.Numbered
 ghost use Rattle.osek_values.specs.declared.limits.TheConstants.{MAX_TABLE};
 ghost use Rattle.table_codec.specs.declared.fault.WriteFault.TheVariants.{TooLong};
 ghost use Rattle.table_codec.specs.Spelling.{spelling, resource_numbers, value_bytes, set_bytes, listed, flag_number as flag_number_of, sets_bytes};
-ghost use Rattle.table_codec.specs.Writing.{Puts, stack_size, CanBeWritten, IsWritable, AreWritable, AreOrdered, all_in, merged_bytes};
+ghost use Rattle.table_codec.specs.Writing.{PutsBytes, stack_size, CanBeWritten, IsWritable, AreWritable, AreOrdered, all_in, merged_bytes};
 
 use crate::ascending::{NumberedValue, ascending};
 use crate::fault::WriteFault;
@@ -97,7 +97,7 @@ fn put_listed(
 ) -> Result<(), WriteFault>
     requires known { component < length sets.now }
     requires values { All CanBeWritten (values_in (set_of sets.now component) values.now) }
-    ensures { Puts result out.old.items out.new.items (listed (values_in (set_of sets.now component) values.now)) }
+    ensures { PutsBytes result out.old.items out.new.items (listed (values_in (set_of sets.now component) values.now)) }
 {
     let found = values.ranks_in(alloc, sets, component)?;
     if found.count > MAX_TABLE {
@@ -170,7 +170,7 @@ fn put_set(
 ) -> Result<(), WriteFault>
     requires known { place < length sets.now }
     requires values { IsWritable component (values_in (set_of sets.now place) values.now) }
-    ensures { Puts result out.old.items out.new.items (set_bytes component (values_in (set_of sets.now place) values.now)) }
+    ensures { PutsBytes result out.old.items out.new.items (set_bytes component (values_in (set_of sets.now place) values.now)) }
 {
     match component {
         Component::Task(_) | Component::Source(_) => { put_listed(alloc, out, values, sets, place) }
@@ -191,7 +191,7 @@ fn put_entry(
     requires size { length components.now ≤ length values.now }
     requires as_many { length components.now ≤ length sets.now }
     requires sets { AreWritable components.now (all_in sets.now values.now) }
-    ensures { Puts result out.old.items out.new.items (sets_bytes components.now (all_in sets.now values.now)) }
+    ensures { PutsBytes result out.old.items out.new.items (sets_bytes components.now (all_in sets.now values.now)) }
 {
     for place in 0..components.len() {
         let component = *components.at(place);
@@ -211,7 +211,7 @@ fn put_row(
     requires size { length components.now ≤ length values.now }
     requires as_many { length components.now ≤ length row.now.entry.sets }
     requires sets { AreWritable components.now (all_in row.now.entry.sets values.now) }
-    ensures { Puts result out.old.items out.new.items (1 ∷ sets_bytes components.now (all_in row.now.entry.sets values.now)) }
+    ensures { PutsBytes result out.old.items out.new.items (1 ∷ sets_bytes components.now (all_in row.now.entry.sets values.now)) }
 {
     out.push(PRESENT)?;
     put_entry(alloc, out, components, values, &row.entry.sets)
@@ -229,7 +229,7 @@ fn put_rows(
     requires size { 0 < length rows.now → length components.now ≤ length values.now }
     requires as_many { All (λ (row : ARow). length components.now ≤ length row.entry.sets) rows.now }
     requires sets { All (λ (row : ARow). AreWritable components.now (all_in row.entry.sets values.now)) rows.now }
-    ensures { Puts result out.old.items out.new.items (merged_bytes components.now values.now points.now rows.now) }
+    ensures { PutsBytes result out.old.items out.new.items (merged_bytes components.now values.now points.now rows.now) }
 {
     let mut next = 0;
     for place in 0..points.len() {

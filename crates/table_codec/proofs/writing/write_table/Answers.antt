@@ -3,7 +3,7 @@ use Rattle.std.specs.Prelude.{Err}
 use Rattle.abstract_state.specs.{declared.value.Component.{Component}, Components.{components}}
 use Rattle.numbered_sets.specs.declared.table.NumberedRow.{NumberedRow}
 use Rattle.osek_values.specs.declared.limits.TheConstants.{MAX_TABLE}
-use Rattle.table_codec.specs.{declared.fault.WriteFault.{WriteFault, TheVariants.{TooLong}}, Spelling.{magic}, Writing.{Puts, AreOrdered, AreWritable, all_in, merged_bytes}}
+use Rattle.table_codec.specs.{declared.fault.WriteFault.{WriteFault, TheVariants.{TooLong}}, Spelling.{magic}, Writing.{PutsBytes, AreOrdered, AreWritable, all_in, merged_bytes}}
 use Rattle.table_codec.proofs.WrittenBytes.{pool_counts, each_size, each_writable, all_written}
 use Rattle.table_codec.proofs.writing.write_table.Goals as goal
 
@@ -42,7 +42,7 @@ returns-in_err-put_rows-clause-too_long c = λ e.
     let whole = all_written app c.args.table.now c.requires pool rows c.in_ok-numbered.ensures values (λ some. subst (λ (n : ℕ). AreOrdered pool n values) count (c.in_ok-values.ensures (omega (arith, some, c.len-2.ensures))))
     c.in_ok-components.components c.in_ok-points.points before c.in_ok-components.ensures c.in_ok-points.ensures start in
     let more = merged_bytes c.in_ok-components.components values c.in_ok-points.points rows in
-    let many : MAX_TABLE < length before + length more = subst (λ (f : WriteFault). Puts {X = Unit {0}} (Err f) before c.put_rows.new.out.items more) fault c.in_err-put_rows.ensures in
+    let many : MAX_TABLE < length before + length more = subst (λ (f : WriteFault). PutsBytes {X = Unit {0}} (Err f) before c.put_rows.new.out.items more) fault c.in_err-put_rows.ensures in
     omega (arith, many, ap (λ (l : List ℕ). length l) whole, length-append before more)
 
 pub returns-in_err-limited-clause-too_long : goal.returns-in_err-limited-clause-too_long
