@@ -47,10 +47,10 @@ parts_of i = record {
 }
 
 -- An answer for bytes is what reading gives, unless memory ran out.
-abbrev pub Answers : Result Image (Refused ImageFault) → Result Parts ImageFault → Type 0
-Answers (Ok i) read = read ≡ Ok (parts_of i)
-Answers (Err errors.Memory) read = Unit {0}
-Answers (Err (errors.Fault f)) read = read ≡ Err f
+abbrev pub AnswersParts : Result Image (Refused ImageFault) → Result Parts ImageFault → Type 0
+AnswersParts (Ok i) read = read ≡ Ok (parts_of i)
+AnswersParts (Err errors.Memory) read = Unit {0}
+AnswersParts (Err (errors.Fault f)) read = read ≡ Err f
 
 -- the image is answered, unless memory ran out
 abbrev pub IsAnswered : Image → Result Image (Refused ImageFault) → Type 0

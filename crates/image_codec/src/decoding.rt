@@ -1,6 +1,6 @@
 //! Images from bytes.
 ghost use Rattle.std.specs.Prelude.{◌≡◌, IfOk};
-ghost use Rattle.image_codec.specs.{Spelling.{spelling}, Fits.{FitsFormat}, ImageReading.{parts_at, all_at, Answers, IsAnswered, read_image}};
+ghost use Rattle.image_codec.specs.{Spelling.{spelling}, Fits.{FitsFormat}, ImageReading.{parts_at, all_at, AnswersParts, IsAnswered, read_image}};
 ghost use Rattle.image_fields.specs.Reading.{Gives};
 ghost use Rattle.image_model.specs.declared.image.Image.{Image as AnImage};
 
@@ -58,7 +58,7 @@ pub fn decode(alloc: Global, bytes: &[u8]) -> Result<Image, ImageError>
     // What is spelled so is answered.
     ensures complete { (i : AnImage) → FitsFormat i → spelling i ≡ bytes.now → IsAnswered i result }
     // A fault is the first one.
-    ensures first { Answers result (read_image bytes.now) }
+    ensures first { AnswersParts result (read_image bytes.now) }
 {
     let mut reader = Reader::new(bytes);
     match all(alloc, &mut reader) {

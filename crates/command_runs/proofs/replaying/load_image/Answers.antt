@@ -1,7 +1,7 @@
 -- the image is spelled by what the file holds
 use Rattle.std.proofs.Common.{◌≡◌, List, ℕ, Err, inl, inr, refl, subst, ◌∙◌}
 use Rattle.osek_values.specs.declared.refused.Refused.{Refused}
-use Rattle.image_codec.specs.{declared.fault.ImageFault.{ImageFault}, ImageReading.{read_image, Answers as DecodeAnswers}}
+use Rattle.image_codec.specs.{declared.fault.ImageFault.{ImageFault}, ImageReading.{read_image, AnswersParts}}
 use Rattle.command_runs.specs.{Inputs.{faulty, no_memory}, Outside.{told}, Replaying.{SpellImage, IsImageFault}, declared.stop.Input.TheVariants.{Image}}
 use Rattle.command_runs.specs.declared.stop.Stop.TheVariants as stop
 use Rattle.command_runs.proofs.{InputFiles.{of_bytes}, Unloaded.{too_long}}
@@ -15,7 +15,7 @@ returns-in-Ok-decode-clause-image g c =
 pub returns-in-Err-Fault-clause-stop : goal.returns-in-Err-Fault-clause-stop
 returns-in-Err-Fault-clause-stop g c =
     faulty c.in-Err-Fault.fault (of_bytes _ _ (λ (b : List ℕ). IsImageFault b c.in-Err-Fault.fault) _ c.in-Ok.ensures.bytes
-    (inr (c.in-Ok.ensures.within, subst (λ (b : List ℕ). read_image b ≡ Err c.in-Err-Fault.fault) c.deref.ensures.value (subst (λ (e : Refused ImageFault). DecodeAnswers (Err e) (read_image c.deref.result.now)) c.in-Err-Fault.field-0-is c.in-Err-Fault.ensures.first))))
+    (inr (c.in-Ok.ensures.within, subst (λ (b : List ℕ). read_image b ≡ Err c.in-Err-Fault.fault) c.deref.ensures.value (subst (λ (e : Refused ImageFault). AnswersParts (Err e) (read_image c.deref.result.now)) c.in-Err-Fault.field-0-is c.in-Err-Fault.ensures.first))))
 
 pub returns-clause-stop : goal.returns-clause-stop
 returns-clause-stop g c = no_memory
