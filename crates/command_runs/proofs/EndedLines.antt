@@ -5,7 +5,7 @@ use Rattle.std.proofs.lemmas.{Bool.{ltb-true}, List.{append-nil, drop_all, get_o
 use Rattle.std.proofs.lemmas.List.Quantifiers.{position-Some}
 use Rattle.trace_text.specs.{declared.feed.FeedStep.TheVariants.{Line}, EventText.{text_lines}}
 use Rattle.trace_text.specs.Feeds.{FeedState, Peeled, peeled, peeled_at, answer_by, next_answer, left_by, after_next}
-use Rattle.trace_text.proofs.{EventLaws.{position_is}, FeedLaws.{no_line_ahead}, FirstLines.{short_line}, LineLaws.{is_lf}}
+use Rattle.trace_text.proofs.{EventLaws.{position_is}, FeedLaws.{no_line, no_line_ahead}, FirstLines.{short_line}, LineLaws.{is_lf}}
 use Rattle.command_runs.specs.Playing.{HaveEnded, HasNoEnd}
 
 -- what has ended is the same with ended lines before it
@@ -72,10 +72,6 @@ is_line finished ahead going = by_place (position is_lf (take 257 ahead)) refl
     by_place : (o : Option ℕ) → position is_lf (take 257 ahead) ≡ o → IsLine ahead (peeled_at finished ahead o)
     by_place (Some k) e = inl (ended_at 257 k ahead refl e)
     by_place None e = whole_line finished ahead going (ltb 256 (length ahead)) refl
-
-no_line : (finished : Bool) → answer_by finished None ≡ Line → ⊥
-no_line true e = cc
-no_line false e = cc
 
 line_by : (s : FeedState) (o : Option Peeled) → IsLine s.ahead o → answer_by s.finished o ≡ Line → EndsLine s.ahead (left_by s o).line (left_by s o).ahead ⊎ (256 < length (left_by s o).line)
 line_by s (Some p) h e = h

@@ -2,7 +2,8 @@
 use Rattle.std.proofs.{Common.{◌≡◌, ℕ, List, [], ◌++◌, Option, Some, None, refl, sym, ◌∙◌, ap, subst, append_assoc}, lemmas.List.{append-nil}}
 use Rattle.osek_io.specs.{Counts.{Rose}, Pieces.{grown}, Stored.{WritesProperPrefix}, Sunk.{Sunk, Writes}}
 use Rattle.command_runs.specs.{Playing.{Given, given, Puts, PutsPrefix}, Telling.{Breaks, WritesPrefix}}
-use Rattle.command_runs.proofs.Prefixes.{grown-grown, prefix_of_proper, prefix_of_first, prefix_behind}
+use Rattle.osek_io.proofs.Turns.{grown-grown}
+use Rattle.command_runs.proofs.Prefixes.{prefix_of_proper, prefix_of_first, prefix_behind}
 
 pub grown-nil : (old : Option (List ℕ)) → old ≡ grown old []
 grown-nil None = refl

@@ -1,13 +1,10 @@
 -- Texts that are written piece by piece, or prefixes of them.
-use Rattle.std.proofs.Common.{◌≡◌, ℕ, List, ◌++◌, take, drop, refl, sym, ◌∙◌, ap, subst, append_assoc, Some, None, Ok, Err}
+use Rattle.std.proofs.Common.{◌≡◌, ℕ, List, ◌++◌, take, drop, sym, ◌∙◌, ap, subst, append_assoc, Ok, Err}
 use Rattle.std.specs.{Prelude.{OnOk, OnErr}, declared.{option.Option.{Option}, result.Result.{Result}}}
 use Rattle.osek_io.specs.{Counts.{Rose}, Pieces.{grown}, Stored.{WritesProperPrefix}, Sunk.{Sunk, Writes}, declared.storing.PutError.{PutError}}
+use Rattle.osek_io.proofs.Turns.{grown-grown}
 use Rattle.command_runs.specs.Telling.{TellsText, WritesPrefix}
 use Rattle.std.proofs.lemmas.List.{take-append-drop}
-
-pub grown-grown : (old : Option (List ℕ)) (a b : List ℕ) → grown (grown old a) b ≡ grown old (a ++ b)
-grown-grown None a b = refl
-grown-grown (Some x) a b = ap (λ (l : List ℕ). Some l) (append_assoc x a b)
 
 pub prefix_of_proper : (old new : Option (List ℕ)) (text : List ℕ) → WritesProperPrefix old new text → WritesPrefix old new text
 prefix_of_proper old new text p = (take p.0 text, drop p.0 text, sym (take-append-drop p.0 text), p.2)
