@@ -15,7 +15,7 @@ use Rattle.flow_check.specs.declared.verdict.Verdict.TheVariants as verdict
 use Rattle.osek_io.specs.Files.{Files}
 use Rattle.command_runs.specs.{Replaying.{SpellImage}, declared.stop.Stop.{Stop}}
 use Rattle.commands.specs.{Checking.{SpellTable}, Laws.{HoldBytes}, Words.{Check}}
-use Rattle.commands.specs.Due.{IsDue, IsJudged, ImageDue, ImageIsJudged, TableDue, agreed, bad_image, bad_table, denied, is_read, is_table, no_image, no_table}
+use Rattle.commands.specs.Due.{IsDue, CheckDue, ImageDue, ImageIsJudged, TableDue, agreed, bad_image, bad_table, denied, is_read, is_table, no_image, no_table}
 use Rattle.command_laws.proofs.SomeVerdict.{some_verdict}
 
 has_masks : (i : Image) → FitsFormat i → HasMasks i.app
@@ -24,7 +24,7 @@ has_masks i fits = All-weaker FitsTask (λ (x : Task). x.own.0 < 2 ^ 64) (λ x h
 module _ (files : Files) (image table : List ℕ) (hold : HoldBytes files) (none : (r : Result (Unit {0}) Stop) → ImageDue files image (ImageIsJudged files table) r → ⊥) where
   module _ (bytes : List ℕ) (e : get files image ≡ Some bytes) where
     module _ (i : Image) (spells : SpellImage bytes i) where
-      no_judged : (r : Result (Unit {0}) Stop) → TableDue files table i.app (IsJudged i) r → ⊥
+      no_judged : (r : Result (Unit {0}) Stop) → TableDue files table i.app (CheckDue i) r → ⊥
       no_judged r due = none r (is_read bytes i r e spells due)
 
       module _ (text : List ℕ) (f : get files table ≡ Some text) where

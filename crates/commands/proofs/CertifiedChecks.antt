@@ -10,7 +10,7 @@ use Rattle.table_codec.specs.Spelling.{spelling as table_spelling}
 use Rattle.osek_io.specs.Files.{Files}
 use Rattle.command_runs.specs.{Replaying.{SpellImage}, declared.stop.Stop.{Stop}}
 use Rattle.commands.specs.Checking.{SpellTable, IsAgreed}
-use Rattle.commands.specs.Due.{ImageDue, no_image, bad_image, is_read, no_table, bad_table, is_table, IsJudged, agreed, denied, ImageIsJudged}
+use Rattle.commands.specs.Due.{ImageDue, no_image, bad_image, is_read, no_table, bad_table, is_table, CheckDue, agreed, denied, ImageIsJudged}
 use Rattle.commands.specs.Laws.{WhatIsCertifiedIsChecked, WhatIsCheckedIsAKernelImage}
 use Rattle.commands.proofs.OneDue.{same_found, same_image}
 
@@ -24,7 +24,7 @@ certified_checked files image table app i t made image_stored table_stored =
     is_read (spelling i) i (Ok tt) image_stored made.fitted.kernel.spelled (is_table (table_spelling app t) t (Ok tt) table_stored spells (agreed fits))
 
 module _ (files : Files) (image table bytes : List ℕ) (i : Image) (holds : get files image ≡ Some bytes) (spells : SpellImage bytes i) where
-  of_judged : (j : Image) (t : PlainTable) (r : Result (Unit {0}) Stop) → r ≡ Ok tt → IsJudged j t r → IsAgreed j t
+  of_judged : (j : Image) (t : PlainTable) (r : Result (Unit {0}) Stop) → r ≡ Ok tt → CheckDue j t r → IsAgreed j t
   of_judged j t _ e (agreed said) = said
   of_judged j t _ e (denied d denies) = absurd (cc e)
 

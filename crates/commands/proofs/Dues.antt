@@ -12,8 +12,8 @@ use Rattle.osek_io.specs.{Counts.{ReadFaults}, Files.{Files}, Sunk.{Sunk}}
 use Rattle.commands.specs.Answering.{CommandAnswers}
 use Rattle.commands.specs.Building as building
 use Rattle.commands.specs.Compiling.{SystemStops, CodeStops, CompileStops, OfApp}
-use Rattle.commands.specs.Due.{IsCalm, RunDue, no_mode, no_events, ends, ImageDue, no_image, bad_image, is_read, ImageRuns, IsTold, Upgrades, upgrade_end, TextsDue, no_oil, bad_oil, no_code, bad_code, goes_on, IsBuilt, IsDue}
-use Rattle.commands.specs.Due.{no_table, bad_table, is_table, IsJudged, agreed, denied, ImageIsJudged, certify_end, IsCertifiedBy, WatchDue, no_record, too_long, is_watched}
+use Rattle.commands.specs.Due.{IsCalm, RunDue, no_mode, no_events, ends, ImageDue, no_image, bad_image, is_read, ImageRuns, InfoDue, Upgrades, upgrade_end, TextsDue, no_oil, bad_oil, no_code, bad_code, goes_on, IsBuilt, IsDue}
+use Rattle.commands.specs.Due.{no_table, bad_table, is_table, CheckDue, agreed, denied, ImageIsJudged, certify_end, IsCertifiedBy, WatchDue, no_record, too_long, is_watched}
 use Rattle.abstract_state.specs.declared.table.PlainTable.{PlainTable}
 use Rattle.commands.specs.Generating as generating
 use Rattle.command_runs.specs.Inputs.{over_limit, unread, faulty, no_memory}
@@ -87,9 +87,9 @@ module _ (files : Files) (after : Outside) (reads : ReadFaults) (writes : ℕ) (
     printed_due text r (inl h) = h.0
     printed_due text r (inr h) = absurd (calm.out h.1.0)
 
-    info_due : (image : List ℕ) (r : Result (Unit {0}) Stop) → informing.InfoAnswers before after image r → OrMemory (ImageDue files image IsTold) r
-    info_due image _ (informing.stops s h same) = image_stops image IsTold s h
-    info_due image _ (informing.tells r h) = of_image image IsTold _ r (λ i answers. inr (printed_due _ r answers)) h
+    info_due : (image : List ℕ) (r : Result (Unit {0}) Stop) → informing.InfoAnswers before after image r → OrMemory (ImageDue files image InfoDue) r
+    info_due image _ (informing.stops s h same) = image_stops image InfoDue s h
+    info_due image _ (informing.tells r h) = of_image image InfoDue _ r (λ i answers. inr (printed_due _ r answers)) h
 
     upgrade_due : (image upgraded : List ℕ) (r : Result (Unit {0}) Stop) → upgrading.UpgradeAnswers before after image upgraded r → OrMemory (ImageDue files image Upgrades) r
     upgrade_due image upgraded _ (upgrading.stops s h same) = image_stops image Upgrades s h
@@ -173,7 +173,7 @@ module _ (files : Files) (after : Outside) (reads : ReadFaults) (writes : ℕ) (
     table_stops table i _ (faulty f (bytes, holds, first)) = inr (bad_table bytes f holds first)
     table_stops table i _ no_memory = inl refl
 
-    of_table : (table : List ℕ) (i : Image) (P : PlainTable → Type 0) (r : Result (Unit {0}) Stop) → ((t : PlainTable) → P t → IsJudged i t r) → checking.OfTable (Some files) table i.app P → OrMemory (ImageIsJudged files table i) r
+    of_table : (table : List ℕ) (i : Image) (P : PlainTable → Type 0) (r : Result (Unit {0}) Stop) → ((t : PlainTable) → P t → CheckDue i t r) → checking.OfTable (Some files) table i.app P → OrMemory (ImageIsJudged files table i) r
     of_table table i P r next (bytes, holds, (t, spells, p)) = inr (is_table bytes t r holds spells (next t p))
 
     check_due : (image table : List ℕ) (r : Result (Unit {0}) Stop) → checking.CheckAnswers before after image table r → OrMemory (ImageDue files image (ImageIsJudged files table)) r

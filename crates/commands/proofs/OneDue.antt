@@ -5,8 +5,8 @@ use Rattle.table_codec.proofs.{ShortTables.{short_is_spellable}, TableFaults.{sp
 use Rattle.flow_check.specs.declared.verdict.Verdict.{Verdict}
 use Rattle.flow_check.specs.declared.verdict.Verdict.TheVariants as verdict
 use Rattle.flow_check.proofs.VerdictLaws.{one_verdict}
-use Rattle.commands.specs.Checking.{SpellTable, IsTableFault, IsDenial}
-use Rattle.commands.specs.Due.{TableDue, no_table, bad_table, is_table, IsJudged, agreed, denied, ImageIsJudged, certify_end, IsCertifiedBy, WatchDue, no_record, too_long, is_watched}
+use Rattle.commands.specs.Checking.{SpellTable, IsTableFileFault, IsDenial}
+use Rattle.commands.specs.Due.{TableDue, no_table, bad_table, is_table, CheckDue, agreed, denied, ImageIsJudged, certify_end, IsCertifiedBy, WatchDue, no_record, too_long, is_watched}
 use Rattle.commands.proofs.OneTable.{one_table}
 use Rattle.commands.specs.Watching.{IsWatched, watched_by}
 use Rattle.flow_watch.proofs.FirstAlarms.{one_alarm}
@@ -25,7 +25,7 @@ use Rattle.image_codec.proofs.{DecodeLaws.{its_reading}, GoodOfValid.{one_spelli
 use Rattle.trace_text.specs.{EventText.{read_text}, RecordText.{read_record}}
 use Rattle.osek_io.specs.Files.{Files}
 use Rattle.command_runs.specs.{Playing.{Played}, Running.{end_of}}
-use Rattle.commands.specs.Due.{RunDue, no_mode, no_events, ends, ImageDue, no_image, bad_image, is_read, ImageRuns, IsTold, Upgrades, TextsDue, no_oil, bad_oil, no_code, bad_code, goes_on, IsBuilt, OwnDue, IsDue}
+use Rattle.commands.specs.Due.{RunDue, no_mode, no_events, ends, ImageDue, no_image, bad_image, is_read, ImageRuns, InfoDue, Upgrades, TextsDue, no_oil, bad_oil, no_code, bad_code, goes_on, IsBuilt, OwnDue, IsDue}
 use Rattle.command_runs.specs.Replaying.{SpellImage, IsImageFault}
 use Rattle.commands.specs.{Tracing.{never}, GeneratedFiles.{oil_name, code_name, events_name, default_mode}, Words.{Command, Build, Replay, Trace, Show, Report, Info, Gen, Upgrade, Certify, Check, Record, Watch}}
 use Rattle.command_runs.specs.declared.stop.Stop.{Stop}
@@ -93,11 +93,11 @@ module _ (files : Files) where
     same_table b c t u e x y = (spelled_once app t u [] [] (told b t x) (told c u y) (ap (λ (l : List ℕ). l ++ []) (x.spelled ∙ e ∙ sym y.spelled))).0
 
     -- bytes that spell a table have no fault
-    no_table_fault : (b c : List ℕ) (t : PlainTable) (f : TableFault) → b ≡ c → SpellTable app b t → IsTableFault app c f → ⊥
+    no_table_fault : (b c : List ℕ) (t : PlainTable) (f : TableFault) → b ≡ c → SpellTable app b t → IsTableFileFault app c f → ⊥
     no_table_fault b c t f e x (inl (over, is)) = let within = subst (λ (l : List ℕ). length l ≤ MAX_TABLE) e x.within in omega (arith, over, within)
     no_table_fault b c t f e x (inr (within, first)) = no_first_fault app t f (told b t x) (subst (λ (l : List ℕ). IsFirstFault app l f) (sym (x.spelled ∙ e)) first)
 
-    same_table_fault : (b c : List ℕ) (f g : TableFault) → b ≡ c → IsTableFault app b f → IsTableFault app c g → f ≡ g
+    same_table_fault : (b c : List ℕ) (f g : TableFault) → b ≡ c → IsTableFileFault app b f → IsTableFileFault app c g → f ≡ g
     same_table_fault b c f g e (inl (over, x)) (inl (more, y)) = x ∙ sym y
     same_table_fault b c f g e (inl (over, x)) (inr (within, y)) = let same : length b ≡ length c = ap (λ (l : List ℕ). length l) e in absurd (omega (arith, over, within, same))
     same_table_fault b c f g e (inr (within, x)) (inl (over, y)) = let same : length b ≡ length c = ap (λ (l : List ℕ). length l) e in absurd (omega (arith, over, within, same))
@@ -124,7 +124,7 @@ module _ (files : Files) where
   same_denial app (verdict.N3 b) d e x y = x ∙ sym y
   same_denial app (verdict.N4 b) d e x y = x ∙ sym y
 
-  one_judged : (i : Image) (t : PlainTable) (a b : Result (Unit {0}) Stop) → IsJudged i t a → IsJudged i t b → a ≡ b
+  one_judged : (i : Image) (t : PlainTable) (a b : Result (Unit {0}) Stop) → CheckDue i t a → CheckDue i t b → a ≡ b
   one_judged i t _ _ (agreed x) (agreed y) = refl
   one_judged i t _ _ (agreed x) (denied d y) = let same : verdict.Yes ≡ y.verdict = one_verdict i (sets_of t) verdict.Yes y.verdict x y.is in absurd (subst (λ (v : Verdict). IsDenial i.app v d) (sym same) y.told)
   one_judged i t _ _ (denied d x) (agreed y) = let same : verdict.Yes ≡ x.verdict = one_verdict i (sets_of t) verdict.Yes x.verdict y x.is in absurd (subst (λ (v : Verdict). IsDenial i.app v d) (sym same) x.told)
@@ -216,11 +216,11 @@ one_due files (Some (Replay image mode events)) a b x y = one_image files image 
 one_due files (Some (Trace oil code mode events)) a b x y = one_texts files oil code (λ app. RunDue files app never mode events) (λ app. one_run files app never mode events) a b x y
 one_due files (Some (Show oil code)) a b x y = one_texts files oil code IsBuilt (λ app a b x y. x ∙ sym y) a b x y
 one_due files (Some (Report oil code)) a b x y = one_texts files oil code IsBuilt (λ app a b x y. x ∙ sym y) a b x y
-one_due files (Some (Info image)) a b x y = one_image files image IsTold (λ i a b x y. x ∙ sym y) a b x y
+one_due files (Some (Info image)) a b x y = one_image files image InfoDue (λ i a b x y. x ∙ sym y) a b x y
 one_due files (Some (Upgrade image upgraded)) a b x y = one_image files image Upgrades (λ i a b x y. x ∙ sym y) a b x y
 one_due files (Some (Gen seed tasks)) a b x y = x ∙ sym y
 one_due files (Some (Certify oil code image table)) a b x y = one_texts files oil code IsCertifiedBy (one_certified files) a b x y
-one_due files (Some (Check image table)) a b x y = one_image files image (ImageIsJudged files table) (λ i. one_table_due files i.app table (IsJudged i) (one_judged files i)) a b x y
+one_due files (Some (Check image table)) a b x y = one_image files image (ImageIsJudged files table) (λ i. one_table_due files i.app table (CheckDue i) (one_judged files i)) a b x y
 one_due files (Some (Record image mode events)) a b x y = one_image files image (ImageRuns files mode events) (λ i. one_run files i.app (has_trap i) mode events) a b x y
 one_due files (Some (Watch oil code points)) a b x y = one_texts files oil code (WatchDue files points) (one_watched files points) a b x y
 

@@ -12,7 +12,7 @@ use Rattle.image_model.specs.ImageTrace.{has_trap}
 use Rattle.image_codec.specs.Spelling.{spelling}
 use Rattle.image_codec.proofs.SomeImage.{spell_or_fail}
 use Rattle.osek_io.specs.Files.{Files}
-use Rattle.commands.specs.Due.{RunDue, no_mode, no_events, ends, ImageDue, no_image, bad_image, is_read, ImageRuns, IsTold, Upgrades, upgrade_end, TextsDue, no_oil, bad_oil, no_code, bad_code, goes_on, IsBuilt, IsDue}
+use Rattle.commands.specs.Due.{RunDue, no_mode, no_events, ends, ImageDue, no_image, bad_image, is_read, ImageRuns, InfoDue, Upgrades, upgrade_end, TextsDue, no_oil, bad_oil, no_code, bad_code, goes_on, IsBuilt, IsDue}
 use Rattle.commands.specs.Laws.{HoldBytes, IsAnalyzed}
 use Rattle.command_runs.specs.Running.{mode_named}
 use Rattle.commands.specs.{Tracing.{never}, Words.{Command, Build, Replay, Trace, Show, Report, Info, Gen, Upgrade, Certify, Check, Record, Watch}}
@@ -84,7 +84,7 @@ some_due files hold (Some (Replay image mode events)) other = some_image files i
 some_due files hold (Some (Trace oil code mode events)) other = some_texts files oil code (λ app. RunDue files app never mode events) (λ app. some_run files app never mode events)
 some_due files hold (Some (Show oil code)) other = some_texts files oil code IsBuilt (λ app. (Ok tt, refl))
 some_due files hold (Some (Report oil code)) other = some_texts files oil code IsBuilt (λ app. (Ok tt, refl))
-some_due files hold (Some (Info image)) other = some_image files image IsTold (λ i. (Ok tt, refl)) hold
+some_due files hold (Some (Info image)) other = some_image files image InfoDue (λ i. (Ok tt, refl)) hold
 some_due files hold (Some (Upgrade image upgraded)) other = some_image files image Upgrades (λ i. (upgrade_end i.version, refl)) hold
 some_due files hold (Some (Gen seed tasks)) other = (Ok tt, refl)
 some_due files hold (Some (Certify oil code image table)) other = absurd (other tt)

@@ -6,9 +6,9 @@ use Rattle.abstract_state.specs.Tables.{Sets}
 use Rattle.abstract_state.proofs.AllowedLaws.{well_point}
 use Rattle.flow_check.specs.{declared.verdict.Verdict.{Verdict}, Verdicts.{IsVerdict}}
 use Rattle.flow_check.specs.declared.verdict.Verdict.TheVariants as verdict
-use Rattle.commands.specs.Checking.{IsPlaceOf}
+use Rattle.commands.specs.Checking.{HasKnownPlace}
 
-pub place_of : (i : Image) (table : Sets) (v : Verdict) → IsVerdict i table v → IsPlaceOf i.app v
+pub place_of : (i : Image) (table : Sets) (v : Verdict) → IsVerdict i table v → HasKnownPlace i.app v
 place_of i table verdict.Yes h = tt
 place_of i table (verdict.N1 m) h = h.mode
 place_of i table (verdict.N2 p) h = subst (IsPoint i.app) h.leaves.at (well_point i.app h.leaves.from h.leaves.inside.well)

@@ -44,7 +44,7 @@ abbrev pub Carries : (before after : Outside) (err err_after : Sunk) → Option 
 Carries before after err err_after command status = Does command (CommandAnswers before after command) (λ text due. Tells err err_after text due status)
 
 -- Over files that are told, where no count of faults rose, the status is that of the answer which is due, or memory ran out.
-abbrev pub IsExact : (before after : Outside) (err err_after : Sunk) → Option Command → (status : ℕ) → Type 0
-IsExact before after err err_after command status =
+abbrev pub IsDueStatus : (before after : Outside) (err err_after : Sunk) → Option Command → (status : ℕ) → Type 0
+IsDueStatus before after err err_after command status =
     (files : Files) (due : Result (Unit {0}) Stop) → before.shelf.files ≡ Some files → IsCalm before after → (Rose err.faults err_after.faults → ⊥) → IsDue files command due
     → (status ≡ status_of due) ⊎ (status ≡ 7)

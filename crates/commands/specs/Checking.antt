@@ -22,8 +22,8 @@ pub record SpellTable (app : App) (bytes : List ℕ) (table : PlainTable) : Type
   pub spelled : spelling app table ≡ bytes
 
 -- the first fault of a table's bytes; a file over its limit is faulty before all else
-abbrev pub IsTableFault : App → List ℕ → TableFault → Type 0
-IsTableFault app bytes fault =
+abbrev pub IsTableFileFault : App → List ℕ → TableFault → Type 0
+IsTableFileFault app bytes fault =
     ((MAX_TABLE < length bytes) × (fault ≡ record { rule = K6; offset = MAX_TABLE }))
     ⊎ ((length bytes ≤ MAX_TABLE) × IsFirstFault app bytes fault)
 
@@ -33,7 +33,7 @@ OfTable files table app P = OfFile files table (λ b. (t : PlainTable) × SpellT
 
 -- why a table isn't loaded
 abbrev pub TableStops : (before after : Told) → (table : List ℕ) → App → Stop → Type 0
-TableStops before after table app = InputStops before after input.Table table stop.Table (IsTableFault app)
+TableStops before after table app = InputStops before after input.Table table stop.Table (IsTableFileFault app)
 
 -- what is told where the check says no: the rule, and the name of the mode, the point or the block
 abbrev pub IsDenial : App → Verdict → Denial → Type 0
@@ -49,10 +49,10 @@ IsSaid app v None = v ≡ verdict.Yes
 IsSaid app v (Some d) = IsDenial app v d
 
 -- the mode or the point that a verdict names is the application's
-abbrev pub IsPlaceOf : App → Verdict → Type 0
-IsPlaceOf app (verdict.N1 m) = m.0 < length app.modes
-IsPlaceOf app (verdict.N2 p) = IsPoint app p
-IsPlaceOf app other = ⊤
+abbrev pub HasKnownPlace : App → Verdict → Type 0
+HasKnownPlace app (verdict.N1 m) = m.0 < length app.modes
+HasKnownPlace app (verdict.N2 p) = IsPoint app p
+HasKnownPlace app other = ⊤
 
 -- The check says no of the image and the table, as it is told.
 pub record IsDenied (i : Image) (table : PlainTable) (d : Denial) : Type 0 where

@@ -13,7 +13,7 @@ use Rattle.trace_text.specs.EventText.{read_text}
 use Rattle.osek_io.specs.{Counts.{Rose}, Files.{Files}}
 use Rattle.abstract_state.specs.{declared.table.PlainTable.{PlainTable}, Tables.{sets_of}}
 use Rattle.table_codec.specs.{declared.fault.TableFault.{TableFault}, Spelling.{spelling as table_spelling}}
-use Rattle.commands.specs.{Checking.{SpellTable, IsTableFault, IsDenied, IsAgreed}, Fitting.{IsLeastTable}}
+use Rattle.commands.specs.{Checking.{SpellTable, IsTableFileFault, IsDenied, IsAgreed}, Fitting.{IsLeastTable}}
 use Rattle.commands.specs.GeneratedFiles.{oil_name, code_name, events_name, default_mode}
 use Rattle.command_runs.specs.{Inputs.{over_limit}, Outside.{Outside}, Playing.{Played}, Replaying.{SpellImage, IsImageFault}, Running.{mode_named, end_of}}
 use Rattle.commands.specs.{Tracing.{never}, Watching.{IsWatched}, Words.{Command, Build, Replay, Trace, Show, Report, Info, Gen, Upgrade, Certify, Check, Record, Watch}}
@@ -50,22 +50,22 @@ upgrade_end version.Two = Err stop.AlreadyNew
 abbrev pub Upgrades : Image → Result (Unit {0}) Stop → Type 0
 Upgrades i r = r ≡ upgrade_end i.version
 
-abbrev pub IsTold : Image → Result (Unit {0}) Stop → Type 0
-IsTold i r = r ≡ Ok tt
+abbrev pub InfoDue : Image → Result (Unit {0}) Stop → Type 0
+InfoDue i r = r ≡ Ok tt
 
 -- the table of an application, and what comes behind it
 pub data TableDue (files : Files) (table : List ℕ) (app : App) (Next : PlainTable → Result (Unit {0}) Stop → Type 0) : Result (Unit {0}) Stop → Type 0 where
   no_table : get files table ≡ None → TableDue files table app Next (Err (stop.Unread table_file))
-  bad_table : (bytes : List ℕ) (fault : TableFault) → get files table ≡ Some bytes → IsTableFault app bytes fault → TableDue files table app Next (Err (stop.Table fault))
+  bad_table : (bytes : List ℕ) (fault : TableFault) → get files table ≡ Some bytes → IsTableFileFault app bytes fault → TableDue files table app Next (Err (stop.Table fault))
   is_table : (bytes : List ℕ) (t : PlainTable) (r : Result (Unit {0}) Stop) → get files table ≡ Some bytes → SpellTable app bytes t → Next t r → TableDue files table app Next r
 
 -- what the check says of an image and a table
-pub data IsJudged (i : Image) (table : PlainTable) : Result (Unit {0}) Stop → Type 0 where
-  agreed : IsAgreed i table → IsJudged i table (Ok tt)
-  denied : (d : Denial) → IsDenied i table d → IsJudged i table (Err (stop.Denied d))
+pub data CheckDue (i : Image) (table : PlainTable) : Result (Unit {0}) Stop → Type 0 where
+  agreed : IsAgreed i table → CheckDue i table (Ok tt)
+  denied : (d : Denial) → IsDenied i table d → CheckDue i table (Err (stop.Denied d))
 
 abbrev pub ImageIsJudged : Files → (table : List ℕ) → Image → Result (Unit {0}) Stop → Type 0
-ImageIsJudged files table i r = TableDue files table i.app (IsJudged i) r
+ImageIsJudged files table i r = TableDue files table i.app (CheckDue i) r
 
 -- a table is stored where its bytes are within the limit
 abbrev pub certify_end : (length : ℕ) → Result (Unit {0}) Stop
@@ -108,7 +108,7 @@ IsDue files (Some (Replay image mode events)) r = ImageDue files image (ImageRun
 IsDue files (Some (Trace oil code mode events)) r = TextsDue files oil code (λ app. RunDue files app never mode events) r
 IsDue files (Some (Show oil code)) r = TextsDue files oil code IsBuilt r
 IsDue files (Some (Report oil code)) r = TextsDue files oil code IsBuilt r
-IsDue files (Some (Info image)) r = ImageDue files image IsTold r
+IsDue files (Some (Info image)) r = ImageDue files image InfoDue r
 IsDue files (Some (Upgrade image upgraded)) r = ImageDue files image Upgrades r
 IsDue files (Some (Certify oil code image table)) r = TextsDue files oil code IsCertifiedBy r
 IsDue files (Some (Check image table)) r = ImageDue files image (ImageIsJudged files table) r

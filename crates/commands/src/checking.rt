@@ -5,7 +5,7 @@ ghost use Rattle.osek_standard.specs.Points.{IsPoint};
 ghost use Rattle.abstract_state.specs.Written.{IsWritten};
 ghost use Rattle.trace_text.specs.PointTexts.{block_text, point_text};
 ghost use Rattle.command_runs.specs.{Inputs.{OfFile}, Outside.{outside, beside, told, Told}};
-ghost use Rattle.commands.specs.{Checking.{CheckAnswers, SpellTable, TableStops, IsPlaceOf, IsSaid}, Due.{IsJudged}, Printing.{PrintAnswers}};
+ghost use Rattle.commands.specs.{Checking.{CheckAnswers, SpellTable, TableStops, HasKnownPlace, IsSaid}, Due.{CheckDue}, Printing.{PrintAnswers}};
 ghost use Rattle.command_runs.specs.declared.stop.Stop.TheVariants as a_stop;
 
 use command_runs::{CheckRule, Denial, Input, Stop, load_image, load_input};
@@ -69,7 +69,7 @@ fn mode_place(alloc: Global, app: &App, mode: ModeNo) -> Result<Seq<u8>, Memory>
 
 /// What is told where the check says no.
 fn denial(alloc: Global, app: &App, verdict: Verdict) -> Result<Option<Denial>, Memory>
-    requires { IsPlaceOf app.now verdict }
+    requires { HasKnownPlace app.now verdict }
     ensures { IfOk result (IsSaid app.now verdict) }
 {
     match verdict {
@@ -100,7 +100,7 @@ fn denial(alloc: Global, app: &App, verdict: Verdict) -> Result<Option<Denial>, 
 /// Checks an image and a table.
 fn judge(alloc: Global, image: &Image, table: &Table) -> Result<(), Stop>
     requires { IsWritten image.now.app table.now }
-    ensures { (result ≡ Err a_stop.Memory) ⊎ IsJudged image.now table.now result }
+    ensures { (result ≡ Err a_stop.Memory) ⊎ CheckDue image.now table.now result }
 {
     let Ok(verdict) = flow_check::check(alloc, image, table) else {
         return Err(Stop::Memory);

@@ -1,7 +1,7 @@
 //! The top call: the words of the command line, carried out over a shelf and two sinks.
 ghost use Rattle.std.specs.{Prelude.{map, option_map, Some}, String.{string_bytes}};
 ghost use Rattle.osek_io.specs.Sunk.{sunk};
-ghost use Rattle.commands.specs.Answering.{Carries, CommandAnswers, IsExact};
+ghost use Rattle.commands.specs.Answering.{Carries, CommandAnswers, IsDueStatus};
 ghost use Rattle.command_runs.specs.Outside.{outside};
 ghost use Rattle.commands.specs.{Seen.{seen}, Words.{command_of}};
 
@@ -101,7 +101,7 @@ fn run_command<F: Shelf, O: Sink, E: Sink>(
     err: &mut E,
 ) -> u8
     ensures does { Carries (outside F.Shelf O.Sink shelf.old out.old) (outside F.Shelf O.Sink shelf.new out.new) (sunk E.Sink err.old) (sunk E.Sink err.new) (option_map seen command.now) result }
-    ensures exact { IsExact (outside F.Shelf O.Sink shelf.old out.old) (outside F.Shelf O.Sink shelf.new out.new) (sunk E.Sink err.old) (sunk E.Sink err.new) (option_map seen command.now) result }
+    ensures exact { IsDueStatus (outside F.Shelf O.Sink shelf.old out.old) (outside F.Shelf O.Sink shelf.new out.new) (sunk E.Sink err.old) (sunk E.Sink err.new) (option_map seen command.now) result }
 {
     match carry_out_words(alloc, command, shelf, out) {
         Ok(()) => 0,
@@ -132,7 +132,7 @@ pub fn osekfit<F: Shelf, O: Sink, E: Sink>(
     err: &mut E,
 ) -> u8
     ensures does { Carries (outside F.Shelf O.Sink shelf.old out.old) (outside F.Shelf O.Sink shelf.new out.new) (sunk E.Sink err.old) (sunk E.Sink err.new) (command_of (map string_bytes words.now)) result }
-    ensures exact { IsExact (outside F.Shelf O.Sink shelf.old out.old) (outside F.Shelf O.Sink shelf.new out.new) (sunk E.Sink err.old) (sunk E.Sink err.new) (command_of (map string_bytes words.now)) result }
+    ensures exact { IsDueStatus (outside F.Shelf O.Sink shelf.old out.old) (outside F.Shelf O.Sink shelf.new out.new) (sunk E.Sink err.old) (sunk E.Sink err.new) (command_of (map string_bytes words.now)) result }
 {
     match command_from(alloc, words) {
         Ok(command) => run_command(alloc, &command, shelf, out, err),

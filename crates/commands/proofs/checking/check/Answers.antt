@@ -8,7 +8,7 @@ use Rattle.osek_io.specs.Files.{Files}
 use Rattle.command_runs.specs.{Inputs.{OfFile, no_memory}, Outside.{Outside, Told, outside, told}, Replaying.{SpellImage, OfImage}, declared.stop.Stop.{Stop}}
 use Rattle.command_runs.specs.declared.stop.Stop.TheVariants as stop
 use Rattle.command_runs.proofs.{InputFiles.{of_map}, FaultlessReads.{earlier, then_reads}}
-use Rattle.commands.specs.{Checking.{SpellTable, OfTable, TableStops, IsAgreed, IsDenied, CheckAnswers, no_image, no_table, denied, agreed}, Due.{IsJudged}, Printing.{PrintAnswers}}
+use Rattle.commands.specs.{Checking.{SpellTable, OfTable, TableStops, IsAgreed, IsDenied, CheckAnswers, no_image, no_table, denied, agreed}, Due.{CheckDue}, Printing.{PrintAnswers}}
 use Rattle.commands.specs.Due as due
 use Rattle.commands.proofs.checking.check.Goals as goal
 
@@ -20,18 +20,18 @@ over_table files table app t P h p = of_map files table _ _ (λ b spells. (t, sp
 
 module _ (before after : Outside) (image table : List ℕ) (i : Image) (t : PlainTable) (loaded : OfFile before.shelf.files image (λ b. SpellImage b i)) (read : OfFile before.shelf.files table (λ b. SpellTable i.app b t)) where
   -- no was said, or memory ran out
-  said_no : (r : Result (Unit {0}) Stop) → (r ≡ Ok tt → ⊥) → after.out ≡ before.out → (r ≡ Err stop.Memory) ⊎ IsJudged i t r → CheckAnswers before after image table r
+  said_no : (r : Result (Unit {0}) Stop) → (r ≡ Ok tt → ⊥) → after.out ≡ before.out → (r ≡ Err stop.Memory) ⊎ CheckDue i t r → CheckAnswers before after image table r
   said_no r other same (inl e) = subst (CheckAnswers before after image table) (sym e) (no_image stop.Memory no_memory same)
   said_no _ other same (inr (due.agreed said)) = absurd (other refl)
   said_no _ other same (inr (due.denied d denies)) =
       denied d (over_image before.shelf.files image i (λ j. OfTable before.shelf.files table j.app (λ x. IsDenied j x d)) loaded (over_table before.shelf.files table i.app t (λ x. IsDenied i x d) read denies)) same
 
-  is_yes : (r : Result (Unit {0}) Stop) → r ≡ Ok tt → (r ≡ Err stop.Memory) ⊎ IsJudged i t r → IsAgreed i t
+  is_yes : (r : Result (Unit {0}) Stop) → r ≡ Ok tt → (r ≡ Err stop.Memory) ⊎ CheckDue i t r → IsAgreed i t
   is_yes r e (inl memory) = absurd (cc (e, memory))
   is_yes _ e (inr (due.agreed said)) = said
   is_yes _ e (inr (due.denied d denies)) = absurd (cc e)
 
-  said_yes : (said r : Result (Unit {0}) Stop) → said ≡ Ok tt → (said ≡ Err stop.Memory) ⊎ IsJudged i t said → PrintAnswers before after (codes "yes\n") r → CheckAnswers before after image table r
+  said_yes : (said r : Result (Unit {0}) Stop) → said ≡ Ok tt → (said ≡ Err stop.Memory) ⊎ CheckDue i t said → PrintAnswers before after (codes "yes\n") r → CheckAnswers before after image table r
   said_yes said r e judged prints =
       agreed r (over_image before.shelf.files image i (λ j. OfTable before.shelf.files table j.app (IsAgreed j)) loaded (over_table before.shelf.files table i.app t (IsAgreed i) read (is_yes said e judged))) prints
 

@@ -5,7 +5,7 @@ use Rattle.table_codec.specs.{declared.fault.TableFault.{TableFault}, Faults.{Is
 use Rattle.command_runs.specs.{Inputs.{faulty, no_memory}, Outside.{told}, declared.stop.Input.TheVariants.{Table}}
 use Rattle.command_runs.specs.declared.stop.Stop.TheVariants as stop
 use Rattle.command_runs.proofs.{InputFiles.{of_bytes}, Unloaded.{too_long}}
-use Rattle.commands.specs.Checking.{SpellTable, IsTableFault}
+use Rattle.commands.specs.Checking.{SpellTable, IsTableFileFault}
 use Rattle.commands.proofs.checking.load_table.Goals as goal
 
 pub returns-in-Ok-read_table-clause-table : goal.returns-in-Ok-read_table-clause-table
@@ -18,7 +18,7 @@ returns-in-Ok-read_table-clause-written g c = c.in-Ok-read_table.ensures.spellab
 
 pub returns-in-Err-Fault-clause-stop : goal.returns-in-Err-Fault-clause-stop
 returns-in-Err-Fault-clause-stop g c =
-    faulty c.in-Err-Fault.fault (of_bytes _ _ (λ (b : List ℕ). IsTableFault c.args.app.now b c.in-Err-Fault.fault) _ c.in-Ok.ensures.bytes
+    faulty c.in-Err-Fault.fault (of_bytes _ _ (λ (b : List ℕ). IsTableFileFault c.args.app.now b c.in-Err-Fault.fault) _ c.in-Ok.ensures.bytes
     (inr (c.in-Ok.ensures.within, subst (λ (b : List ℕ). IsFirstFault c.args.app.now b c.in-Err-Fault.fault) c.deref.ensures.value (subst (λ (e : Refused TableFault). Refuses e (IsFirstFault c.args.app.now c.deref.result.now)) c.in-Err-Fault.field-0-is c.in-Err-Fault.ensures.first))))
 
 pub returns-clause-stop : goal.returns-clause-stop
@@ -26,4 +26,4 @@ returns-clause-stop g c = no_memory
 
 pub returns-in-Err-clause-stop : goal.returns-in-Err-clause-stop
 returns-in-Err-clause-stop g c =
-    too_long (told g.F.Shelf c.args.shelf.now) (told g.F.Shelf c.load_input.new.shelf) Table c.args.table.now stop.Table (IsTableFault c.args.app.now) _ refl (λ b over. inl (over, refl)) c.in-Err.stop c.in-Err.ensures.stop
+    too_long (told g.F.Shelf c.args.shelf.now) (told g.F.Shelf c.load_input.new.shelf) Table c.args.table.now stop.Table (IsTableFileFault c.args.app.now) _ refl (λ b over. inl (over, refl)) c.in-Err.stop c.in-Err.ensures.stop
