@@ -5,7 +5,7 @@ use Rattle.std.proofs.lemmas.Bool.{le-ltb, ltb-false}
 use Rattle.osek_values.specs.{declared.event.Event.{Event, TheVariants.{Run, Irq, Tick}}, Numbers.{isr_no, counter_no}}
 use Rattle.osek_standard.specs.declared.app.App.{App}
 use Rattle.trace_text.specs.declared.fault.EventFault.{EventFault, TheVariants.{E1, E2, E3}}
-use Rattle.trace_text.specs.{EventWords.{is_comment, run_by, of_source, isr_named, counter_named, said_with, said, read_line, words}, EventGrammar.{NamesNone, SayNothing}}
+use Rattle.trace_text.specs.{EventWords.{is_comment, run_by, of_source, isr_named, counter_named, said_with, said, read_line, words}, EventGrammar.{NamesUndeclared, SayNothing}}
 use Rattle.trace_text.proofs.EventLaws.{same_bytes}
 
 abbrev Answer : Type 0
@@ -17,14 +17,14 @@ read_short app line short = ap (λ b. cond b (Err E3) (said app (words line))) (
 
 -- a source that isn't declared
 
-none_is_faulty : (app : App) (ws : List (List ℕ)) → NamesNone app ws → said app ws ≡ Err E2
+none_is_faulty : (app : App) (ws : List (List ℕ)) → NamesUndeclared app ws → said app ws ≡ Err E2
 none_is_faulty app ws h =
     elim h.1 [
       | inl irq ↦ ap (said app) irq.0 ∙ ap (of_source (λ i. Irq (isr_no i))) irq.1
       | inr tick ↦ ap (said app) tick.0 ∙ ap (of_source (λ c. Tick (counter_no c))) tick.1
     ]
 
-pub faulty_if_none : (app : App) (line : List ℕ) → length line ≤ 256 → NamesNone app (words line) → read_line app line ≡ Err E2
+pub faulty_if_none : (app : App) (line : List ℕ) → length line ≤ 256 → NamesUndeclared app (words line) → read_line app line ≡ Err E2
 faulty_if_none app line short h = read_short app line short ∙ none_is_faulty app (words line) h
 
 source_is_none : (f : ℕ → Event) (o : Option ℕ) → of_source f o ≡ Err E2 → o ≡ None
@@ -41,13 +41,13 @@ verb_is verb word operand s = ap (λ v. v ∷ operand ∷ []) (same_bytes verb w
 
 verb_names : (app : App) (verb operand : List ℕ) (a b d : Bool) → bytes_eq verb (codes "irq") ≡ b → bytes_eq verb (codes "tick") ≡ d →
     cond a (run_by operand) (cond b (of_source (λ i. Irq (isr_no i)) (isr_named app operand)) (cond d (of_source (λ c. Tick (counter_no c)) (counter_named app operand)) (Err E1))) ≡ Err E2 →
-    NamesNone app (verb ∷ operand ∷ [])
+    NamesUndeclared app (verb ∷ operand ∷ [])
 verb_names app verb operand true b d t u h = absurd (run_knows (bytes_eq operand (codes "0")) (bytes_eq operand (codes "1")) h)
 verb_names app verb operand false true d t u h = (operand, inl (verb_is verb (codes "irq") operand t, source_is_none (λ i. Irq (isr_no i)) (isr_named app operand) h))
 verb_names app verb operand false false true t u h = (operand, inr (verb_is verb (codes "tick") operand u, source_is_none (λ c. Tick (counter_no c)) (counter_named app operand) h))
 verb_names app verb operand false false false t u h = absurd (cc)
 
-with_names : (app : App) (verb : List ℕ) (rest : List (List ℕ)) → said_with app verb rest ≡ Err E2 → NamesNone app (verb ∷ rest)
+with_names : (app : App) (verb : List ℕ) (rest : List (List ℕ)) → said_with app verb rest ≡ Err E2 → NamesUndeclared app (verb ∷ rest)
 with_names app verb [] h = absurd (cc)
 with_names app verb (operand ∷ []) h = verb_names app verb operand (bytes_eq verb (codes "run")) (bytes_eq verb (codes "irq")) (bytes_eq verb (codes "tick")) refl refl h
 with_names app verb (operand ∷ more ∷ rest) h = absurd (cc)
@@ -56,7 +56,7 @@ no_comment : (b : Bool) (r : Answer) → cond b (Ok None) r ≡ Err E2 → r ≡
 no_comment true r h = absurd (cc)
 no_comment false r h = h
 
-said_names : (app : App) (ws : List (List ℕ)) → said app ws ≡ Err E2 → NamesNone app ws
+said_names : (app : App) (ws : List (List ℕ)) → said app ws ≡ Err E2 → NamesUndeclared app ws
 said_names app [] h = absurd (cc)
 said_names app (verb ∷ rest) h = with_names app verb rest (no_comment (is_comment verb) (said_with app verb rest) h)
 
@@ -64,7 +64,7 @@ faulty_is_short : (b : Bool) (r : Answer) → cond b (Err E3) r ≡ Err E2 → (
 faulty_is_short true r h = absurd (cc)
 faulty_is_short false r h = (refl, h)
 
-pub none_if_faulty : (app : App) (line : List ℕ) → read_line app line ≡ Err E2 → (length line ≤ 256) × NamesNone app (words line)
+pub none_if_faulty : (app : App) (line : List ℕ) → read_line app line ≡ Err E2 → (length line ≤ 256) × NamesUndeclared app (words line)
 none_if_faulty app line h =
     let parts = faulty_is_short (ltb 256 (length line)) (said app (words line)) h in
     (ltb-false 256 (length line) parts.0, said_names app (words line) parts.1)

@@ -41,8 +41,8 @@ module _ (app : App) where
     pub words : HasWords line (event_words e)
 
   -- the words name a category 2 ISR or a counter that isn't declared
-  abbrev pub NamesNone : List (List ℕ) → Type 0
-  NamesNone ws = (name : List ℕ) × (((ws ≡ codes "irq" ∷ name ∷ []) × (isr_named app name ≡ None)) ⊎ ((ws ≡ codes "tick" ∷ name ∷ []) × (counter_named app name ≡ None)))
+  abbrev pub NamesUndeclared : List (List ℕ) → Type 0
+  NamesUndeclared ws = (name : List ℕ) × (((ws ≡ codes "irq" ∷ name ∷ []) × (isr_named app name ≡ None)) ⊎ ((ws ≡ codes "tick" ∷ name ∷ []) × (counter_named app name ≡ None)))
 
   -- an event as it is written
   abbrev pub event_line : Event → List ℕ

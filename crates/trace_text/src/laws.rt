@@ -4,7 +4,7 @@ ghost use Rattle.osek_values.specs.declared.{limits.TheConstants.{MAX_EVENT_LINE
 ghost use Rattle.osek_standard.specs.{declared.{app.App.{App}, point.Point.{Point}}, Apps.{IsDeclared}, Points.{IsPoint}};
 ghost use Rattle.trace_text.specs.{declared.{fault.EventFault.TheVariants.{E2}, feed.FeedStep.TheVariants.{Line, End, More}}, EventWords.{words, read_line}};
 ghost use Rattle.trace_text.specs.{EventText.{text_lines, numbered_lines, read_lines, read_text}, Feeds.{FeedState, no_bytes, next_answer, after_next, ComesOut, lines_to_long}};
-ghost use Rattle.trace_text.specs.{EventGrammar.{HasWords, NamesNone, SayNothing, Says, event_text}, PointTexts.{point_text}};
+ghost use Rattle.trace_text.specs.{EventGrammar.{HasWords, NamesUndeclared, SayNothing, Says, event_text}, PointTexts.{point_text}};
 ghost use Rattle.trace_text.specs.{declared.fault.PointFault.{PointFault}, PointWords.{read_point_line}, PointGrammar.{IsLineAnswer}, RecordText.{read_record, record_text}};
 
 /// A line has the words that it is read by, and no other ones.
@@ -21,8 +21,8 @@ pub fn a_line_is_read_as_what_it_says()
 
 /// A line is faulty for a source that isn't declared exactly where it is short enough and its words name one.
 pub fn a_line_that_names_none_is_faulty()
-    ensures faulty { (app : App) (line : List ℕ) → length line ≤ MAX_EVENT_LINE → NamesNone app (words line) → read_line app line ≡ Err E2 }
-    ensures only_then { (app : App) (line : List ℕ) → read_line app line ≡ Err E2 → (length line ≤ MAX_EVENT_LINE) × NamesNone app (words line) }
+    ensures faulty { (app : App) (line : List ℕ) → length line ≤ MAX_EVENT_LINE → NamesUndeclared app (words line) → read_line app line ≡ Err E2 }
+    ensures only_then { (app : App) (line : List ℕ) → read_line app line ≡ Err E2 → (length line ≤ MAX_EVENT_LINE) × NamesUndeclared app (words line) }
 {}
 
 /// A line says no event exactly where it is short enough and has no words, or a comment.
