@@ -3,7 +3,7 @@ use Rattle.std.proofs.Common.{◌≡◌, ℕ, ◌+◌, ◌*◌, ◌<◌, ◌≤�
 use Rattle.std.specs.{Prelude.{is_some, filter, if◌then◌else◌}, List.{list_any, flat_map, position, position_or_len}, Str.{bytes_eq}}
 use Rattle.std.proofs.lemmas.{Bool.{or_from, or_left, or_right, lt-ltb, cases_eq}, List.{length-append, Folds.{list_any-append}}, Slice.Eq.{bytes_eq-Decides}}
 use Rattle.std.proofs.Math.ListN.{drop_of_length-le}
-use Rattle.osek_values.specs.{Lines.{IsIn}, declared.refusal.CodeRule.{CodeRule, TheVariants.{C1, C2, C3, C4, C6, C7, C8, C9, C10}}}
+use Rattle.osek_values.specs.{Lines.{IsOneOf}, declared.refusal.CodeRule.{CodeRule, TheVariants.{C1, C2, C3, C4, C6, C7, C8, C9, C10}}}
 use Rattle.oil_system.specs.declared.{objects.{Alarm.{Alarm}, Resource.{Resource}}, system.{TaskObject.{TaskObject}, IsrObject.{IsrObject}, EventObject.{EventObject}, System.{System}}}
 use Rattle.oil_tree.specs.declared.tree.Object.{Object}
 use Rattle.oil_model.specs.{Rules.{repeated}, Systems.{modes, events, resources, names_of, task, isr as isr_of_object, alarm as alarm_of_object, system_of}}
@@ -232,4 +232,4 @@ module _ (nons : List Bool) (bodies : List Steps) (task_named : ℕ) (few : leng
   no_lines C10 = takable_bodies s (length nons) knows 0 1 bodies task_named
 
   pub code_has_no_fault : HasNoFault s code
-  code_has_no_fault rule line violated = subst (IsIn line) (no_lines rule) violated
+  code_has_no_fault rule line violated = subst (IsOneOf line) (no_lines rule) violated

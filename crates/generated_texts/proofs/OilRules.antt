@@ -3,7 +3,7 @@ use Rattle.std.proofs.Common.{◌≡◌, ℕ, ◌+◌, ◌<◌, ◌≤◌, ◌^�
 use Rattle.std.specs.{Prelude.{◌&&◌, not, nat_le, find, filter}, List.{list_any, flat_map, AllByRecursion}, Str.{bytes_eq}}
 use Rattle.std.proofs.lemmas.{Bool.{and_from, or_from, or_left, le-leb, false_from_ne_true}, Fmt.{decimal_digit}, List.Folds.{list_any-append}, Option.{slice_get_past}}
 use Rattle.std.proofs.lemmas.Slice.Eq.{bytes_eq-Decides}
-use Rattle.osek_values.specs.{Lines.{IsIn}, declared.refusal.OilRule.{OilRule, TheVariants.{O1, O2, O3, O4, O5, O6, O7, O9, O10, O11, O12, O13, O14, O15, O16, O17, O18}}}
+use Rattle.osek_values.specs.{Lines.{IsOneOf}, declared.refusal.OilRule.{OilRule, TheVariants.{O1, O2, O3, O4, O5, O6, O7, O9, O10, O11, O12, O13, O14, O15, O16, O17, O18}}}
 use Rattle.oil_lexer.specs.Numbers.{value_of}
 use Rattle.oil_tree.specs.{declared.tree.{Attr.{Attr}, Object.{Object}}, AttrLists.{attr_list}}
 use Rattle.oil_model.specs.{declared.objects.Category.TheVariants.{Two}, Faults.{HasNoFault}, Lists.{found_of}, LookUp.{is_named, word_of, word_at, attr_line}}
@@ -196,4 +196,4 @@ module _ (nons : List Bool) (few : length nons ≤ 16) (some : 0 < length nons) 
   no_lines O18 = ap (flat_map (barred_resources_of (has_scheduler objects) objects)) isr_counted
 
   pub oil_has_no_fault : HasNoFault (oil_tree nons)
-  oil_has_no_fault rule line violated = subst (IsIn line) (no_lines rule) violated
+  oil_has_no_fault rule line violated = subst (IsOneOf line) (no_lines rule) violated

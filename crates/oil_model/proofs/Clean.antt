@@ -1,13 +1,13 @@
 -- What it says that nothing is found.
 use Rattle.std.proofs.Common.{◌≡◌, ℕ, zero, suc, ◌<◌, inl, List, [], ◌∷◌, ◌++◌, length, get_or, map, Bool, true, false, refl, sym, subst, arith}
 use Rattle.std.specs.{Prelude.{if◌then◌else◌, filter, cond}, List.{flat_map, AllByRecursion}}
-use Rattle.oil_model.specs.Lines.{IsIn}
+use Rattle.oil_model.specs.Lines.{IsOneOf}
 
 pub true_not_false : true ≡ false → ⊥
 true_not_false e = cc
 
 -- no line at all
-pub no_line : (xs : List ℕ) → ((l : ℕ) → IsIn l xs → ⊥) → xs ≡ []
+pub no_line : (xs : List ℕ) → ((l : ℕ) → IsOneOf l xs → ⊥) → xs ≡ []
 no_line [] h = refl
 no_line (x ∷ xs) h = absurd (h x (inl refl))
 

@@ -2,13 +2,13 @@
 use Rattle.std.proofs.Common.{◌≡◌, ℕ, suc, zero, ◌+◌, ◌<◌, ◌≤◌, ◌⊎◌, min, inl, inr, ⊎_elim, Bool, true, List, [], ◌∷◌, length, get_or, refl, sym, ap, ◌∙◌, subst, arith, below_more}
 use Rattle.std.proofs.{str.Laws.{order as compare}, lemmas.Bool.Decides.{nat_tests}}
 use Rattle.std.specs.Prelude.{Option, Some, None, nat_lt, ◌&&◌}
-use Rattle.osek_values.specs.{declared.refused.LineFault.{LineFault}, Lines.{sooner, least, IsIn}, LeastFaults.{HasNoFault, IsLeastFault, IsLeastOrNone}}
+use Rattle.osek_values.specs.{declared.refused.LineFault.{LineFault}, Lines.{sooner, least, IsOneOf}, LeastFaults.{HasNoFault, IsLeastFault, IsLeastOrNone}}
 
 -- the least of some lines
 
 abbrev IsLeast : Option ℕ → List ℕ → Type 0
-IsLeast None xs = (l : ℕ) → IsIn l xs → ⊥
-IsLeast (Some l) xs = IsIn l xs × ((m : ℕ) → IsIn m xs → l ≤ m)
+IsLeast None xs = (l : ℕ) → IsOneOf l xs → ⊥
+IsLeast (Some l) xs = IsOneOf l xs × ((m : ℕ) → IsOneOf m xs → l ≤ m)
 
 least_cons : (x : ℕ) (xs : List ℕ) (best : Option ℕ) → IsLeast best xs → IsLeast (sooner (Some x) best) (x ∷ xs)
 least_cons x xs None h = (inl refl, λ m z. ⊎_elim (λ e. omega (arith, e)) (λ i. absurd (h m i)) z)
@@ -22,10 +22,10 @@ least_is : (xs : List ℕ) → IsLeast (least xs) xs
 least_is [] = λ l h. absurd h
 least_is (x ∷ xs) = least_cons x xs (least xs) (least_is xs)
 
-least_none : (xs : List ℕ) → least xs ≡ None → (l : ℕ) → IsIn l xs → ⊥
+least_none : (xs : List ℕ) → least xs ≡ None → (l : ℕ) → IsOneOf l xs → ⊥
 least_none xs e = subst (λ (o : Option ℕ). IsLeast o xs) e (least_is xs)
 
-least_some : (xs : List ℕ) (l : ℕ) → least xs ≡ Some l → IsIn l xs × ((m : ℕ) → IsIn m xs → l ≤ m)
+least_some : (xs : List ℕ) (l : ℕ) → least xs ≡ Some l → IsOneOf l xs × ((m : ℕ) → IsOneOf m xs → l ≤ m)
 least_some xs l e = subst (λ (o : Option ℕ). IsLeast o xs) e (least_is xs)
 
 module _ {Rule : Type 0} (order : Rule → ℕ) (lines : Rule → List ℕ) where
@@ -70,8 +70,8 @@ module _ {Rule : Type 0} (order : Rule → ℕ) (lines : Rule → List ℕ) wher
     AreCleanBelow i = (k : ℕ) → k < i → least (lines (rule_at k)) ≡ None
 
     module _ (all : AreAll) where
-      judged : (r : Rule) (l : ℕ) → IsIn l (lines r) → IsJudged r
-      judged r l v = ⊎_elim (λ p. p) (λ e. absurd (subst (λ (xs : List ℕ). IsIn l xs) e v)) (all.each r)
+      judged : (r : Rule) (l : ℕ) → IsOneOf l (lines r) → IsJudged r
+      judged r l v = ⊎_elim (λ p. p) (λ e. absurd (subst (λ (xs : List ℕ). IsOneOf l xs) e v)) (all.each r)
 
       -- a place is one of before, at, and behind another
       places : (i k : ℕ) → i < length rules → k < length rules → ((k < i) × (order (rule_at k) < order (rule_at i))) ⊎ (order (rule_at i) ≤ order (rule_at k)) × ((order (rule_at i) ≡ order (rule_at k)) → i ≡ k)
@@ -87,11 +87,11 @@ module _ {Rule : Type 0} (order : Rule → ℕ) (lines : Rule → List ℕ) wher
       earlier : (i k : ℕ) → i < length rules → k < length rules → order (rule_at k) < order (rule_at i) → k < i
       earlier i k hi hk less = ⊎_elim (λ p. p.0) (λ p. let ge = p.0 in absurd (omega (arith, less, ge))) (places i k hi hk)
 
-      none_below : (i : ℕ) → i < length rules → AreCleanBelow i → (other : Rule) (l : ℕ) → order other < order (rule_at i) → IsIn l (lines other) → ⊥
+      none_below : (i : ℕ) → i < length rules → AreCleanBelow i → (other : Rule) (l : ℕ) → order other < order (rule_at i) → IsOneOf l (lines other) → ⊥
       none_below i h clean other l less v =
           let (k, lt, is) = judged other l v in
           let lower : order (rule_at k) < order (rule_at i) = subst (λ (r : Rule). order r < order (rule_at i)) (sym is) less in
-          least_none (lines (rule_at k)) (clean k (earlier i k h lt lower)) l (subst (λ (r : Rule). IsIn l (lines r)) (sym is) v)
+          least_none (lines (rule_at k)) (clean k (earlier i k h lt lower)) l (subst (λ (r : Rule). IsOneOf l (lines r)) (sym is) v)
 
       pub found : (i : ℕ) → i < length rules → AreCleanBelow i → (line : ℕ) → least (lines (rule_at i)) ≡ Some line → IsLeastFault order lines (rule_at i) line
       found i h clean line e =
@@ -101,10 +101,10 @@ module _ {Rule : Type 0} (order : Rule → ℕ) (lines : Rule → List ℕ) wher
       pub clean_all : (i : ℕ) → length rules ≤ i → AreCleanBelow i → HasNoFault order lines
       clean_all i h clean r l v =
           let (k, lt, is) = judged r l v in
-          least_none (lines (rule_at k)) (clean k (omega (arith, h, lt))) l (subst (λ (r : Rule). IsIn l (lines r)) (sym is) v)
+          least_none (lines (rule_at k)) (clean k (omega (arith, h, lt))) l (subst (λ (r : Rule). IsOneOf l (lines r)) (sym is) v)
 
       -- two rules of one number that are both violated are one
-      one_rule : (r s : Rule) (l m : ℕ) → IsIn l (lines r) → IsIn m (lines s) → order r ≡ order s → r ≡ s
+      one_rule : (r s : Rule) (l m : ℕ) → IsOneOf l (lines r) → IsOneOf m (lines s) → order r ≡ order s → r ≡ s
       one_rule r s l m x y e =
           let (k, k_in, is) = judged r l x in
           let (j, j_in, is') = judged s m y in
@@ -121,8 +121,8 @@ module _ {Rule : Type 0} (order : Rule → ℕ) (lines : Rule → List ℕ) wher
 
       same_line : (r s : Rule) (l m : ℕ) → r ≡ s → IsLeastFault order lines r l → IsLeastFault order lines s m → l ≡ m
       same_line r s l m e x y =
-          let a : l ≤ m = x.least_line m (subst (λ (q : Rule). IsIn m (lines q)) (sym e) y.violated) in
-          let b : m ≤ l = y.least_line l (subst (λ (q : Rule). IsIn l (lines q)) e x.violated) in
+          let a : l ≤ m = x.least_line m (subst (λ (q : Rule). IsOneOf m (lines q)) (sym e) y.violated) in
+          let b : m ≤ l = y.least_line l (subst (λ (q : Rule). IsOneOf l (lines q)) e x.violated) in
           omega (arith, a, b)
 
       -- one fault at most

@@ -2,9 +2,9 @@
 use Rattle.std.specs.Prelude.{◌≡◌, ◌⊎◌, ℕ, min, List, [], ◌∷◌, Option, Some, None}
 
 -- one of the lines
-abbrev pub IsIn : ℕ → List ℕ → Type 0
-IsIn l [] = ⊥
-IsIn l (x ∷ lines) = (x ≡ l) ⊎ IsIn l lines
+abbrev pub IsOneOf : ℕ → List ℕ → Type 0
+IsOneOf l [] = ⊥
+IsOneOf l (x ∷ lines) = (x ≡ l) ⊎ IsOneOf l lines
 
 -- the lesser of two lines, where both are there
 abbrev pub sooner : Option ℕ → Option ℕ → Option ℕ
