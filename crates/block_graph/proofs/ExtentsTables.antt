@@ -6,7 +6,7 @@ use Rattle.osek_values.{specs.{Names.{AreNames}, declared.numbers.ResNo.{ResNo}}
 use Rattle.oil_system.specs.declared.{objects.{Action.{Action}, Alarm.{Alarm}}, system.{CounterObject.{CounterObject}, IsrObject.{IsrObject}, TaskObject.{TaskObject}, System.{System}}}
 use Rattle.oil_system.specs.declared.objects.Action.TheVariants as action
 use Rattle.osek_standard.specs.declared.{objects.{Counter.{Counter}, Isr.{Isr}, Task.{Task}}, block.Block.{Block}}
-use Rattle.osek_standard.{specs.Validity.{IsAction, IsAlarmOf, IsInternal, due_of, is_cycle_of, no_counter}, proofs.DueAlarms.{due_count}}
+use Rattle.osek_standard.{specs.Validity.{IsAction, IsAlarm, IsInternal, due_of, is_cycle_of, no_counter}, proofs.DueAlarms.{due_count}}
 use Rattle.oil_model.specs.Linkable.{IsActionAmong, IsAlarmAmong, IsInternalAmong, IsLinkable, is_cycle_of_object, no_counter_object}
 use Rattle.task_code.specs.declared.tree.{Body.{Body}, Code.{Code}}
 use Rattle.task_code.specs.declared.tree.BodyKind.TheVariants as body_kind
@@ -128,7 +128,7 @@ module _ (s : System) (bodies : List Body) (linkable : IsLinkable s) where
   pub min_cycles : All (λ (x : Counter). x.min_cycle ≤ x.max) (counters_of s bodies)
   min_cycles = λ k d lt. (counter_facts k d lt).1
 
-  alarm_kept : (blocks : List Block) (x : Alarm) → IsAlarmAmong (length s.tasks) s.counters x → IsAlarmOf (tables_over s bodies blocks) x
+  alarm_kept : (blocks : List Block) (x : Alarm) → IsAlarmAmong (length s.tasks) s.counters x → IsAlarm (tables_over s bodies blocks) x
   alarm_kept blocks x among =
       let same = counter_bounds s s.counters 0 (source_size bodies) x.counter.0 no_counter no_counter_object among.counter in
       let counter = slice_index_or (counters_of s bodies) x.counter.0 no_counter in
@@ -140,5 +140,5 @@ module _ (s : System) (bodies : List Body) (linkable : IsLinkable s) where
         cycle = cycle_kept counter object x.cycle same among.cycle;
       }
 
-  pub each_alarm : (blocks : List Block) → All (IsAlarmOf (tables_over s bodies blocks)) s.alarms
+  pub each_alarm : (blocks : List Block) → All (IsAlarm (tables_over s bodies blocks)) s.alarms
   each_alarm blocks = λ k d lt. alarm_kept blocks (slice_index_or s.alarms k d) (linkable.each_alarm k d lt)

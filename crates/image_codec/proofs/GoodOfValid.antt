@@ -10,7 +10,7 @@ use Rattle.osek_values.proofs.Lists.{any_of_map}
 use Rattle.oil_system.specs.declared.objects.{Alarm.{Alarm}, Resource.{Resource}, Action.{Action}}
 use Rattle.oil_system.specs.declared.objects.Action.TheVariants as action
 use Rattle.osek_standard.specs.declared.{objects.{Task.{Task}, Isr.{Isr}, Counter.{Counter}}, app.App.{App}}
-use Rattle.osek_standard.specs.Validity.{no_block, no_counter, no_resource, meet, owners, is_cycle_of, is_internal, IsAction, IsAlarmOf, IsOwner, IsValid, IsInternal}
+use Rattle.osek_standard.specs.Validity.{no_block, no_counter, no_resource, meet, owners, is_cycle_of, is_internal, IsAction, IsAlarm, IsOwner, IsValid, IsInternal}
 use Rattle.osek_standard.specs.{Tables.{Tables as AppTables}, Versions.{NamesNone, TakesNone}}
 use Rattle.osek_standard.specs.Apps.{tables, is_site_in}
 use Rattle.image_model.specs.{declared.{site.Site.{Site}, image.{Image.{Image}, Version.{Version}}}, Sites.{IsSiteAt}, Versions.{FitsAlone, FitsVersion1Alone}}
@@ -237,7 +237,7 @@ module _ (i : Image) (fits : FitsFormat i) where
 
   alarm_here : (e : List Alarm) (x : Alarm) (l : List Alarm) → e ++ x ∷ l ≡ t.alarms → GoodAlarm n t.counters e x
   alarm_here e x l same =
-      let o = here_of_all (IsAlarmOf (tables_of_parts p)) t.alarms e x l same v.each_alarm in
+      let o = here_of_all (IsAlarm (tables_of_parts p)) t.alarms e x l same v.each_alarm in
       let starts = here_of_all (λ (y : Alarm). y.autostart < 2 ^ length t.modes) t.alarms e x l same v.alarm_starts in
       let none = here_of_all (λ (y : Alarm). y.autostart ≡ 0 → (y.time ≡ 0) × (y.cycle ≡ 0)) t.alarms e x l same v.no_starts in
       let acts = here_of_all (λ (y : Alarm). FitsAction y.action) t.alarms e x l same fits.each_alarm in

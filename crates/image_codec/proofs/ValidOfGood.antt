@@ -8,7 +8,7 @@ use Rattle.oil_system.specs.declared.objects.{Alarm.{Alarm}, Resource.{Resource}
 use Rattle.oil_system.specs.declared.objects.Action.TheVariants as action
 use Rattle.osek_values.proofs.Lists.{any_of_map, none_distinct}
 use Rattle.osek_standard.specs.declared.{objects.{Task.{Task}, Isr.{Isr}, Counter.{Counter}}, block.{Block.{Block}, Kind.{Kind}}, app.App.{App}}
-use Rattle.osek_standard.specs.Validity.{no_block, no_counter, no_resource, meet, owners, is_cycle_of, is_internal, IsAction, IsAlarmOf, IsValid, IsInternal}
+use Rattle.osek_standard.specs.Validity.{no_block, no_counter, no_resource, meet, owners, is_cycle_of, is_internal, IsAction, IsAlarm, IsValid, IsInternal}
 use Rattle.osek_standard.specs.{Versions.{FitsVersion1, NamesNone}, Apps.{tables, is_site, is_site_in}}
 use Rattle.osek_standard.specs.declared.block.Kind.TheVariants as kind
 use Rattle.image_model.specs.{declared.{site.{Form.{Form}, Known.{Known}, Site.{Site}}, image.Version.{Version}}, Versions.{IsUnknown, SaysNothing, FitsAlone}}
@@ -215,7 +215,7 @@ module _ (p : Parts) (good : GoodParts p) where
   apart_c = each_distinct (GoodCounter n t.tasks t.isrs) meet (λ (x : Counter). (x.first.0, x.count)) (ranges_t ++ ranges_i)
       (λ e x g. not-true _ g.code.apart) t.counters apart_i good.tables.counters.1
 
-  alarm_is : (x : Alarm) (e : List Alarm) → GoodAlarm n t.counters e x → IsAlarmOf (tables_of_parts p) x
+  alarm_is : (x : Alarm) (e : List Alarm) → GoodAlarm n t.counters e x → IsAlarm (tables_of_parts p) x
   alarm_is x e g = record {
     counter = ltb-true _ _ g.counter;
     action = action_named n p x.action refl g.acts;
@@ -276,7 +276,7 @@ module _ (p : Parts) (good : GoodParts p) where
         );
     min_cycles = each_all (GoodCounter n t.tasks t.isrs) (λ (x : Counter). x.min_cycle ≤ x.max) (λ e x g. leb-true _ _ g.min_within) t.counters good.tables.counters.1;
     tick_code = λ c lt. let code = counters_inside c no_counter lt in tick_code p good.same block_fact c no_counter lt (some_of _ _ _ code) (inside_of _ _ _ code);
-    each_alarm = each_all (GoodAlarm n t.counters) (IsAlarmOf (tables_of_parts p)) (λ e x g. alarm_is x e g) t.alarms good.tables.alarms.1;
+    each_alarm = each_all (GoodAlarm n t.counters) (IsAlarm (tables_of_parts p)) (λ e x g. alarm_is x e g) t.alarms good.tables.alarms.1;
     alarm_starts = each_all (GoodAlarm n t.counters) (λ (x : Alarm). x.autostart < 2 ^ length t.modes) (λ e x g. ltb-true _ _ g.autostart) t.alarms good.tables.alarms.1;
     no_starts = each_all (GoodAlarm n t.counters) (λ (x : Alarm). x.autostart ≡ 0 → (x.time ≡ 0) × (x.cycle ≡ 0))
         (λ e x g none. (start_none (eqb x.autostart 0) _ x.time (eq-eqb x.autostart 0 none) g.time, start_none (eqb x.autostart 0) _ x.cycle (eq-eqb x.autostart 0 none) g.cycle)) t.alarms good.tables.alarms.1;

@@ -8,7 +8,7 @@ use Rattle.osek_standard.specs.declared.{app.App.{App}, state.{State.{State}, So
 use Rattle.osek_standard.specs.Apps.{source_count, routine_start, routine_count, no_block}
 use Rattle.osek_standard.specs.States.{task_of, with_latch, with_source, source_state, all_out, task_state, with_processor}
 use Rattle.osek_standard.specs.{Effects.{returned_by, returned, halted_by, returned_to}, Arrivals.{begun, arrival, entered}}
-use Rattle.osek_standard.specs.{Well.{Well, AreOut, IsProcessor, IsRoutine, IsRunningAt, IsRoutineOf}, Line.{places_due, with_line}, Levels.{next_routine}}
+use Rattle.osek_standard.specs.{Well.{Well, AreOut, IsProcessor, IsRoutine, IsRunningAt, IsRoutineStandingOf}, Line.{places_due, with_line}, Levels.{next_routine}}
 use Rattle.osek_standard.specs.declared.state.Source.TheVariants as source
 use Rattle.osek_standard.specs.declared.state.Processor.TheVariants as processor
 use Rattle.osek_standard.proofs.{WellLaws.{routine_owner, offset_0}, Keeps.{processor_keeps, at_processor_keeps, current_of, due_when_first}}
@@ -40,7 +40,7 @@ module _ (app : App) (s : State) where
   }
 
   -- a routine that begins is right
-  begun_is_right : (k : ℕ) → k < source_count app → IsRoutineOf app k (begun app k)
+  begun_is_right : (k : ℕ) → k < source_count app → IsRoutineStandingOf app k (begun app k)
   begun_is_right k known =
       let owner = routine_owner app k known in
       let start = routine_start app k in

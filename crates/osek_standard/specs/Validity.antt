@@ -148,7 +148,7 @@ module _ (t : Tables) where
     pub ends : (b : ℕ) → IsAmong b first count → IsTrue (is_own_next b (block_at b).kind (block_at b).next.0)
     pub each : (b : ℕ) (none : Block) → IsAmong b first count → IsBlock first count (slice_index_or t.blocks b none)
 
-  pub record IsAlarmOf (x : Alarm) : Type 0 where
+  pub record IsAlarm (x : Alarm) : Type 0 where
     pub counter : x.counter.0 < length t.counters
     pub action : IsAction x.action
     pub time : x.time ≤ (slice_index_or t.counters x.counter.0 no_counter).max
@@ -198,7 +198,7 @@ module _ (t : Tables) where
     pub each_counter : All (λ (x : Counter). (1 ≤ x.max) × IsOwner x.first.0 x.count) t.counters
     pub min_cycles : All (λ (x : Counter). x.min_cycle ≤ x.max) t.counters
     pub tick_code : (c : ℕ) → c < length t.counters → IsTickCode (due_of t.alarms c) (slice_index_or t.counters c no_counter).first.0 (slice_index_or t.counters c no_counter).count
-    pub each_alarm : All IsAlarmOf t.alarms
+    pub each_alarm : All IsAlarm t.alarms
     pub alarm_starts : All (λ (x : Alarm). x.autostart < 2 ^ length t.modes) t.alarms
     pub no_starts : All (λ (x : Alarm). x.autostart ≡ 0 → (x.time ≡ 0) × (x.cycle ≡ 0)) t.alarms
     pub ceilings : All (λ (x : Resource). x.ceiling ≤ greatest_ceiling) t.resources

@@ -78,7 +78,7 @@ module _ (app : App) where
   IsOfRoutine k b = IsAmong b (routine_start app k).0 (routine_count app k)
 
   -- a routine stands at a block of its own, and a tick routine holds nothing
-  pub record IsRoutineOf (k : ℕ) (x : RoutineStanding) : Type 0 where
+  pub record IsRoutineStandingOf (k : ℕ) (x : RoutineStanding) : Type 0 where
     pub own : IsOfRoutine k x.at.block.0
     pub offset : IsOffsetAt (the_block app x.at.block.0).kind x.at.offset
     pub stack : IsStack x.held
@@ -86,11 +86,11 @@ module _ (app : App) where
 
   abbrev pub IsSourceState : ℕ → Source → Type 0
   IsSourceState k source.Out = ⊤
-  IsSourceState k (source.In x) = IsRoutineOf k x
+  IsSourceState k (source.In x) = IsRoutineStandingOf k x
 
   abbrev pub IsRunningAt : ℕ → Source → Type 0
   IsRunningAt k source.Out = ⊥
-  IsRunningAt k (source.In x) = IsRoutineOf k x
+  IsRunningAt k (source.In x) = IsRoutineStandingOf k x
 
   -- the source at the processor runs, and others may be in too
   pub record IsRoutine (s : State) (k : SourceNo) (task : Option TaskNo) : Type 0 where
