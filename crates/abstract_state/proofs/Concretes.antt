@@ -17,7 +17,7 @@ use Rattle.abstract_state.specs.declared.value.Component.TheVariants as componen
 use Rattle.abstract_state.specs.Components.{component_number, RunsAt, IsInAt}
 use Rattle.abstract_state.specs.Concrete.{Free, val_of, flag_of, source_val_of, activity_of, alarm_of, source_of, value_of_source, IsFree, StandsThere, AreAllowed, HasParts, state_of}
 use Rattle.abstract_state.specs.Choices.{with_latches, with_offset, with_routine_offset, with_arming, with_counter, with_first, first_of_line}
-use Rattle.abstract_state.specs.Choices.{IsFirstIfThere, IsQuiet, IsQuietAt, IsQuietWith, IsLatchedAlone}
+use Rattle.abstract_state.specs.Choices.{IsFirstIfThere, IsQuietState, IsQuietAt, IsQuietWith, IsLatchedAlone}
 use Rattle.abstract_state.proofs.ConcreteLaws.{state_has_parts, choice_allowed, task_is, alarm_is, source_is, val_right, source_val_right, place_of_in}
 
 -- each task stands in a line as often as before, whichever comes first
@@ -191,7 +191,7 @@ module _ (app : App) (p : Point) (value : ℕ → PartValue) (known : IsPoint ap
   first_by t free some = comes_first t free.line (subst (λ (n : ℕ). 0 < n) (same_places t t free.line) some)
 
   -- a state in which no routine begins
-  pub some_quiet : (t : ℕ) → (s : State) × IsQuiet app p value t s
+  pub some_quiet : (t : ℕ) → (s : State) × IsQuietState app p value t s
   some_quiet t =
       let free = with_first quiet_free t in (
         state_of app p value free,

@@ -3,7 +3,7 @@ use Rattle.std.proofs.Common.{◌≡◌, ◌≢◌, ℕ, zero, suc, ◌+◌, ◌
 use Rattle.std.specs.List.{All}
 use Rattle.std.proofs.{lemmas.{Bool.{cases_eq, cases_lt}, List.{length-set, get_or_default, same_lists, Elements.{All-head, All-tail}}}, Math.ListN.{get_or-eq_default}}
 use Rattle.abstract_state.specs.{declared.table.{ValueSet.{ValueSet}, PlainEntry.{PlainEntry}}, ValueOrder.{IsAscending}}
-use Rattle.abstract_state.specs.Tables.{empty_set, set_at, AreAscending, IsJoin, IsPartOfJoin, IsSetBySet, IsWrite}
+use Rattle.abstract_state.specs.Tables.{empty_set, set_at, HasAscendingSets, IsJoin, IsPartOfJoin, IsSetBySet, IsWrite}
 use Rattle.abstract_state.proofs.{OrderLaws.{ascending_none}, JoinLaws.{join_begun, join_whole, join_stopped, join_part, join_one}}
 
 -- how many values a set has
@@ -60,13 +60,13 @@ module _ (before other now after : PlainEntry) (i : ℕ) (x : ValueSet) (known :
     kept = λ c le. elsewhere IsJoin write c (λ same. omega (arith, same, le)) ∙ so_far.kept c (omega (arith, le));
   }
 
-  apart : (c : ℕ) → AreAscending before → c ≢ i → IsPartOfJoin (set_at before c) (set_at other c) (set_at now c)
+  apart : (c : ℕ) → HasAscendingSets before → c ≢ i → IsPartOfJoin (set_at before c) (set_at other c) (set_at now c)
   apart c up differ = elim (cases_lt c i) [
     | inl lt ↦ join_part (set_at before c) (set_at other c) (set_at now c) (so_far.joined c lt)
     | inr le ↦ subst (IsPartOfJoin (set_at before c) (set_at other c)) (sym (so_far.kept c le)) (part_of_none (set_at before c) (set_at other c) (ascending_at before.sets c up))
   ]
 
-  pub stopped : AreAscending before → IsWrite IsPartOfJoin i x now after → IsSetBySet IsPartOfJoin before other after
+  pub stopped : HasAscendingSets before → IsWrite IsPartOfJoin i x now after → IsSetBySet IsPartOfJoin before other after
   stopped up write = record {
     as_many = as_long IsPartOfJoin write;
     each = λ c. elim (cases_eq c i) [
@@ -75,7 +75,7 @@ module _ (before other now after : PlainEntry) (i : ℕ) (x : ValueSet) (known :
     ];
   }
 
-pub all_joined : (before other after : PlainEntry) (i : ℕ) → i ≡ length other.sets → length before.sets ≡ length other.sets → AreAscending before → AreJoinedBelow before other i after → IsSetBySet IsJoin before other after
+pub all_joined : (before other after : PlainEntry) (i : ℕ) → i ≡ length other.sets → length before.sets ≡ length other.sets → HasAscendingSets before → AreJoinedBelow before other i after → IsSetBySet IsJoin before other after
 all_joined before other after i e as_many up so_far = record {
   as_many = so_far.as_many;
   each = λ c. elim (cases_lt c i) [

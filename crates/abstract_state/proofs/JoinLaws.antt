@@ -4,7 +4,7 @@ use Rattle.std.specs.{declared.cmp.Ordering.TheVariants.{Less}, List.{All, list_
 use Rattle.std.proofs.{Math.Bool.{or_comm, or_assoc}, lemmas.{Bool.{or_cases, or_left, or_right, or_parts, cases_Bool}, List.{take-append-drop, take_all, get_or_default}}}
 use Rattle.std.proofs.lemmas.List.{Folds.{list_any_at, list_any_more, list_any-append}, Edits.{length-insert}}
 use Rattle.std.proofs.lemmas.Map.{Keys.{Less-from_sorted, IsDistinct-cons, IsDistinct-from_sorted}, Made.{length-le_from_is_member}}
-use Rattle.abstract_state.specs.{declared.{value.PartValue.{PartValue}, table.ValueSet.{ValueSet}}, ValueOrder.{part_order, same_part, IsAscending, ArePassed, IsPlace, IsGap}}
+use Rattle.abstract_state.specs.{declared.{value.PartValue.{PartValue}, table.ValueSet.{ValueSet}}, ValueOrder.{part_order, same_part, IsAscending, AreBefore, IsPlace, IsGap}}
 use Rattle.abstract_state.specs.Tables.{is_member, IsSubset, IsJoin, IsPartOfJoin}
 use Rattle.abstract_state.proofs.OrderLaws.{part_right, part_laws, any_with, ascending_with, same_list, passed_on, none_passed}
 
@@ -123,7 +123,7 @@ pub record IsJoinSoFar (a : ValueSet) (items : List PartValue) (i : ℕ) (x : Va
   pub members : (v : PartValue) → is_member x v ≡ (is_member a v || list_any (same_part v) (take i items))
   pub count : length x.members ≡ length a.members + added
   pub few : added ≤ i
-  pub passed : (d : PartValue) → i < length items → ArePassed x.members place (get_or items i d)
+  pub passed : (d : PartValue) → i < length items → AreBefore x.members place (get_or items i d)
 
 none_taken : (b : Bool) → b ≡ (b || false)
 none_taken true = refl
@@ -157,7 +157,7 @@ module _ (a x : ValueSet) (items : List PartValue) (i added place : ℕ) (v : Pa
   more w = list_any_more (same_part w) items i v lt ∙ ap (λ (y : PartValue). list_any (same_part w) (take i items) || same_part w y) (sym is)
 
   -- what is passed for it is passed for the next
-  next_passed : (xs : List PartValue) (p : ℕ) → ArePassed xs p v → (d : PartValue) → i + 1 < length items → ArePassed xs p (get_or items (i + 1) d)
+  next_passed : (xs : List PartValue) (p : ℕ) → AreBefore xs p v → (d : PartValue) → i + 1 < length items → AreBefore xs p (get_or items (i + 1) d)
   next_passed xs p passed d further =
       let before : part_order v (get_or items (i + 1) v) ≡ Less =
       ap (λ (w : PartValue). part_order w (get_or items (i + 1) v)) is ∙ Less-from_sorted part_order items i (i + 1) v up (omega arith) further in
@@ -178,7 +178,7 @@ module _ (a x : ValueSet) (items : List PartValue) (i added place : ℕ) (v : Pa
   }
 
   module _ (p : ℕ) (gap : IsGap x.members p v) where
-    put_passed : ArePassed (insert x.members p v) p v
+    put_passed : AreBefore (insert x.members p v) p v
     put_passed = record {
       known = omega (arith, gap.passed.known, length-insert x.members p v gap.passed.known);
       each = subst (All (λ (w : PartValue). part_order w v ≡ Less)) (sym (take_insert x.members p v gap.passed.known)) gap.passed.each;
@@ -195,7 +195,7 @@ module _ (a x : ValueSet) (items : List PartValue) (i added place : ℕ) (v : Pa
           ∙ ap (λ (b : Bool). is_member a w || b) (sym (more w));
       count = omega (arith, ap length put, length-insert x.members p v gap.passed.known, so_far.count);
       few = omega (arith, so_far.few);
-      passed = next_passed after.members p (subst (λ (ms : List PartValue). ArePassed ms p v) (sym put) put_passed);
+      passed = next_passed after.members p (subst (λ (ms : List PartValue). AreBefore ms p v) (sym put) put_passed);
     }
 
 pub join_whole : (a b x : ValueSet) (i added place : ℕ) → i ≡ length b.members → IsJoinSoFar a b.members i x added place → IsJoin a b x

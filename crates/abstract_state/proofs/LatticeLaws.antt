@@ -5,7 +5,7 @@ use Rattle.std.proofs.{Math.ListN.{get_or-map}, lemmas.List.{length-map, Element
 use Rattle.osek_values.specs.declared.memory.Memory.{Memory}
 use Rattle.abstract_state.specs.{declared.{value.Domain.{Domain}, table.{ValueSet.{ValueSet}, PlainEntry.{PlainEntry}}}, ValueOrder.{IsAscending}}
 use Rattle.abstract_state.specs.Domains.{domain_size, IsCounted, IsSound, IsSoundEntry, IsBelow, domains, entry_height}
-use Rattle.abstract_state.specs.Tables.{empty_set, set_at, entry_values, AreAscending, IsJoin, IsPartOfJoin, IsSetBySet, IsSubset}
+use Rattle.abstract_state.specs.Tables.{empty_set, set_at, entry_values, HasAscendingSets, IsJoin, IsPartOfJoin, IsSetBySet, IsSubset}
 use Rattle.abstract_state.proofs.{JoinLaws.{no_longer, no_other, join_part, join_right, part_least, equal_sets}, EntryJoins.{size, ascending_at, same_sets}, HeightLaws.{sum_map}}
 use Rattle.abstract_state.proofs.SoundSets.{most_members, sound_part}
 
@@ -79,7 +79,7 @@ module _ (counted : (d : Domain) → IsCounted d) where
   pub most_values : (entry : PlainEntry) → IsSoundEntry entry → entry_values entry ≤ entry_height entry
   most_values entry sound = within_room entry.sets sound.sets
 
-pub sound_ascends : (x : PlainEntry) → IsSoundEntry x → AreAscending x
+pub sound_ascends : (x : PlainEntry) → IsSoundEntry x → HasAscendingSets x
 sound_ascends x sound = All-weaker IsSound (λ (s : ValueSet). IsAscending s.members) (λ s one. one.ascending) x.sets sound.sets
 
 -- sound entries below one another are equal

@@ -10,7 +10,7 @@ use Rattle.std.specs.BTreeSet.{BTreeSet}
 use Rattle.osek_values.specs.{Numbers.{block_no, res_no}, declared.numbers.ResNo.{ResNo}}
 use Rattle.abstract_state.specs.declared.value.{Val.{Val, TheVariants.{Suspended, Live, Waiting}}, SourceVal.{SourceVal}, PartValue.{PartValue, TheVariants.{OfTask, OfEvent, OfAlarm, OfSource}}}
 use Rattle.abstract_state.specs.declared.value.SourceVal.TheVariants as source_val
-use Rattle.abstract_state.specs.ValueOrder.{val_fields, flag_field, source_fields, part_fields, part_order, same_part, IsAscending, ArePassed, IsPlace, IsGap}
+use Rattle.abstract_state.specs.ValueOrder.{val_fields, flag_field, source_fields, part_fields, part_order, same_part, IsAscending, AreBefore, IsPlace, IsGap}
 
 pub order_total : IsTotalOrder part_order
 order_total = on_total part_fields nat_list_cmp_total
@@ -108,7 +108,7 @@ all_after v x xs up h =
     All-cons (Before v) x xs h
     (All-weaker (Before x) (Before v) (λ y k. order_total.trans v x y h k) xs (All-from_recursion (Before x) xs (sorted_head part_order x xs up)))
 
-pub none_passed : (xs : List PartValue) (v : PartValue) → ArePassed xs 0 v
+pub none_passed : (xs : List PartValue) (v : PartValue) → AreBefore xs 0 v
 none_passed xs v = record { known = omega arith; each = All-nil (λ (w : PartValue). Before w v) }
 
 -- where the last is before a value, all are
@@ -122,7 +122,7 @@ all_before (x ∷ y ∷ ys) m v up some is h =
     let next : Before x y = All-head (Before x) y ys (All-from_recursion (Before x) (y ∷ ys) (sorted_head part_order x (y ∷ ys) up)) in
     All-cons (λ (w : PartValue). Before w v) x (y ∷ ys) (order_total.trans x y v next (All-head (λ (w : PartValue). Before w v) y ys rest)) rest
 
-pub all_passed : (xs : List PartValue) (m v : PartValue) → IsAscending xs → 0 < length xs → get_or xs (length xs - 1) m ≡ m → part_order m v ≡ Less → ArePassed xs (length xs) v
+pub all_passed : (xs : List PartValue) (m v : PartValue) → IsAscending xs → 0 < length xs → get_or xs (length xs - 1) m ≡ m → part_order m v ≡ Less → AreBefore xs (length xs) v
 all_passed xs m v up some is h = record {
   known = omega arith;
   each = subst (All (λ (w : PartValue). Before w v)) (sym (take_all (length xs) xs (omega arith))) (all_before xs m v up some is h);
@@ -188,8 +188,8 @@ same_list xs ys up too same =
     btree_set_from_contains order_total one other up too same tied_same
 
 -- what is told at a place of an ascending list
-module _ (xs : List PartValue) (p : ℕ) (v m : PartValue) (passed : ArePassed xs p v) (lt : p < length xs) (at : (d : PartValue) → get_or xs p d ≡ m) where
-  pub passed_more : part_order m v ≡ Less → ArePassed xs (p + 1) v
+module _ (xs : List PartValue) (p : ℕ) (v m : PartValue) (passed : AreBefore xs p v) (lt : p < length xs) (at : (d : PartValue) → get_or xs p d ≡ m) where
+  pub passed_more : part_order m v ≡ Less → AreBefore xs (p + 1) v
   passed_more h = record {
     known = omega (arith, lt);
     each = All-more (λ (w : PartValue). Before w v) xs p m lt passed.each (ap (λ (w : PartValue). part_order w v) (at m) ∙ h);
@@ -202,7 +202,7 @@ module _ (xs : List PartValue) (p : ℕ) (v m : PartValue) (passed : ArePassed x
   gap_found h = record { passed = passed; next = λ d k. ap (part_order v) (at d) ∙ order_total.antisymm v m ∙ ap ordering_reverse h }
 
 -- what is passed for a value is passed for one after it
-pub passed_on : (xs : List PartValue) (p : ℕ) (v w : PartValue) → ArePassed xs p v → Before v w → ArePassed xs p w
+pub passed_on : (xs : List PartValue) (p : ℕ) (v w : PartValue) → AreBefore xs p v → Before v w → AreBefore xs p w
 passed_on xs p v w passed h = record {
   known = passed.known;
   each = All-weaker (λ (x : PartValue). Before x v) (λ (x : PartValue). Before x w) (λ x k. order_total.trans x v w k h) (take p xs) passed.each;

@@ -42,7 +42,7 @@ IsFirstIfThere t s = 0 < places s t → place_in_line s.line t ≡ 0
 module _ (app : App) (p : Point) (value : ℕ → PartValue) where
   -- a well-formed state at the point, with these values, in which no routine begins, and task t comes first in the line if
   -- it stands there
-  pub record IsQuiet (t : ℕ) (s : State) : Type 0 where
+  pub record IsQuietState (t : ℕ) (s : State) : Type 0 where
     pub has : HasParts app p value s
     pub quiet : arrival app s ≡ None
     pub first : IsFirstIfThere t s

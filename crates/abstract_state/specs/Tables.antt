@@ -107,8 +107,8 @@ pub record IsPartOfJoin (set other after : ValueSet) : Type 0 where
 abbrev pub entry_values : PlainEntry → ℕ
 entry_values entry = sum_by (λ (set : ValueSet). length set.members) entry.sets
 
-abbrev pub AreAscending : PlainEntry → Type 0
-AreAscending entry = All (λ (set : ValueSet). IsAscending set.members) entry.sets
+abbrev pub HasAscendingSets : PlainEntry → Type 0
+HasAscendingSets entry = All (λ (set : ValueSet). IsAscending set.members) entry.sets
 
 -- The sets for each component are so related, and there are as many after.
 pub record IsSetBySet (P : ValueSet → ValueSet → ValueSet → Type 0) (entry other after : PlainEntry) : Type 0 where

@@ -49,17 +49,17 @@ abbrev pub IsAscending : List PartValue → Type 0
 IsAscending = IsStrictlySortedBy part_order
 
 -- those below the place are before the value
-pub record ArePassed (members : List PartValue) (place : ℕ) (value : PartValue) : Type 0 where
+pub record AreBefore (members : List PartValue) (place : ℕ) (value : PartValue) : Type 0 where
   pub known : place ≤ length members
   pub each : All (λ (v : PartValue). part_order v value ≡ Less) (take place members)
 
 -- the value stands there
 pub record IsPlace (members : List PartValue) (place : ℕ) (value : PartValue) : Type 0 where
   pub known : place < length members
-  pub passed : ArePassed members place value
+  pub passed : AreBefore members place value
   pub is : (d : PartValue) → slice_index_or members place d ≡ value
 
 -- it is no member, and belongs there
 pub record IsGap (members : List PartValue) (place : ℕ) (value : PartValue) : Type 0 where
-  pub passed : ArePassed members place value
+  pub passed : AreBefore members place value
   pub next : (d : PartValue) → place < length members → part_order value (slice_index_or members place d) ≡ Less

@@ -11,7 +11,7 @@ ghost use Rattle.abstract_state.specs.declared.value.SourceVal.TheVariants as so
 ghost use Rattle.osek_standard.specs.Points.{point_of, IsPoint, StandsAt};
 ghost use Rattle.abstract_state.specs.Components.{component_at, component_count, component_number, abstract_of, IsAllowed, IsComponent};
 ghost use Rattle.abstract_state.specs.Concrete.{Free, IsFree, AreAllowed, HasParts, state_of, value_of_source};
-ghost use Rattle.abstract_state.specs.Choices.{with_latches, with_offset, with_routine_offset, with_arming, with_counter, with_first, IsQuiet, IsQuietAt, IsQuietWith, IsLatchedAlone};
+ghost use Rattle.abstract_state.specs.Choices.{with_latches, with_offset, with_routine_offset, with_arming, with_counter, with_first, IsQuietState, IsQuietAt, IsQuietWith, IsLatchedAlone};
 ghost use Rattle.abstract_state.specs.{Alike.{IsAlike}, Regular.{IsRegular}};
 ghost use Rattle.abstract_state.specs.Tables.{Sets, In, Inductive, IsContained, Least, meet, full, IsSubset, IsJoin, IsPartOfJoin, IsSetBySet, set_at, sets_of, HasRow, HasValue};
 ghost use Rattle.abstract_state.specs.{ValueOrder.{same_part, part_order, IsAscending}, Domains.{domains, IsSound, IsSoundEntry, IsBelow}};
@@ -152,7 +152,7 @@ pub fn all_else_may_be_chosen()
 /// comes first in the line if it stands there, also with the processor so far in its block, with an alarm's time, cycle and
 /// counter as well-formedness allows, or of one in which the routine of a given source begins where one may.
 pub fn states_are_found_where_they_are_asked_for()
-    ensures quiet { (app : App) (p : Point) (value : ℕ → PartValue) → IsPoint app p → AreAllowed app p value → (t : ℕ) → (s : State) × IsQuiet app p value t s }
+    ensures quiet { (app : App) (p : Point) (value : ℕ → PartValue) → IsPoint app p → AreAllowed app p value → (t : ℕ) → (s : State) × IsQuietState app p value t s }
     ensures at { (app : App) (p : Point) (value : ℕ → PartValue) → IsPoint app p → AreAllowed app p value → (t : ℕ) (b : BlockNo) (o : ℕ) → StandsAt p b → IsOffsetAt (the_block app b.0).kind o → (s : State) × IsQuietAt app p value t b o s }
     ensures armed { (app : App) (p : Point) (value : ℕ → PartValue) → IsPoint app p → AreAllowed app p value → (t a at cycle now : ℕ) → a < length app.alarms → IsArmed app a at cycle → now ≤ max_of app a → (s : State) × IsQuietWith app p value t a at cycle now s }
     ensures latched { (app : App) (p : Point) (value : ℕ → PartValue) → IsPoint app p → AreAllowed app p value → (k : ℕ) → k < source_count app → (s : State) × IsLatchedAlone app p value k s }

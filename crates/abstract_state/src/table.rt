@@ -35,7 +35,7 @@ pub struct PlainTable {
 
 impl ValueSet {
     ghost use Rattle.std.specs.{Prelude.{◌≡◌, ◌+◌, ◌||◌, ℕ, ◌≤◌, not, length, IfOk, IfErr, OnOk, OnErr, if◌then◌else◌}, List.{insert}};
-    ghost use Rattle.abstract_state.specs.{ValueOrder.{same_part, IsAscending, ArePassed, IsPlace, IsGap}, Tables.{empty_of, is_member, IsJoin, IsPartOfJoin}};
+    ghost use Rattle.abstract_state.specs.{ValueOrder.{same_part, IsAscending, AreBefore, IsPlace, IsGap}, Tables.{empty_of, is_member, IsJoin, IsPartOfJoin}};
 
     /// The set without a value. It takes no memory yet.
     pub fn new(alloc: Global, domain: Domain) -> ValueSet
@@ -60,7 +60,7 @@ impl ValueSet {
 
     /// The place of a value, or the one where it would come in, where those before a place are known to be before it.
     fn search(&self, from: usize, value: &PartValue) -> Result<usize, usize>
-        requires { ArePassed self.now.members from value.now }
+        requires { AreBefore self.now.members from value.now }
         ensures place { IfOk result (λ place. IsPlace self.now.members place value.now) }
         ensures gap { IfErr result (λ gap. IsGap self.now.members gap value.now) }
     {
@@ -78,7 +78,7 @@ impl ValueSet {
     /// ascending order are not searched for.
     fn passed(&self, value: &PartValue) -> usize
         requires { IsAscending self.now.members }
-        ensures { ArePassed self.now.members result value.now }
+        ensures { AreBefore self.now.members result value.now }
     {
         let count = self.members.len();
         if count == 0 {
@@ -155,7 +155,7 @@ impl ValueSet {
 
 impl PlainEntry {
     ghost use Rattle.std.specs.Prelude.{◌≡◌, ◌<◌, ◌≤◌, ◌+◌, ◌^◌, length, IfOk, OnOk, OnErr};
-    ghost use Rattle.abstract_state.specs.{ValueOrder.{IsAscending}, Tables.{set_at, entry_values, AreAscending, IsJoin, IsPartOfJoin, IsSetBySet, IsWrite}};
+    ghost use Rattle.abstract_state.specs.{ValueOrder.{IsAscending}, Tables.{set_at, entry_values, HasAscendingSets, IsJoin, IsPartOfJoin, IsSetBySet, IsWrite}};
 
     /// Joins the values of another set into one of the sets.
     fn join_set(&mut self, place: usize, other: &ValueSet) -> Result<u64, Memory>
@@ -176,8 +176,8 @@ impl PlainEntry {
     /// between what it was and the join.
     pub fn join_into(&mut self, other: &PlainEntry) -> Result<u64, Memory>
         requires as_many { length self.old.sets ≡ length other.now.sets }
-        requires ascending { AreAscending self.old }
-        requires ascending_too { AreAscending other.now }
+        requires ascending { HasAscendingSets self.old }
+        requires ascending_too { HasAscendingSets other.now }
         requires few { entry_values other.now < 2 ^ 64 }
         ensures entry { OnOk result (IsSetBySet IsJoin self.old other.now self.new) }
         ensures count { IfOk result (λ n. entry_values self.new ≡ entry_values self.old + n) }

@@ -1,6 +1,6 @@
 //! Joins of sets and entries.
 ghost use Rattle.std.specs.Prelude.{◌≡◌, ◌≤◌, length, IfOk};
-ghost use Rattle.abstract_state.specs.{ValueOrder.{IsAscending}, Tables.{entry_values, AreAscending}};
+ghost use Rattle.abstract_state.specs.{ValueOrder.{IsAscending}, Tables.{entry_values, HasAscendingSets}};
 
 use abstract_state::{Domain, LiveVal, PartValue, PlainEntry, Val, ValueSet};
 use osek_values::{BlockNo, Held, Mask, Memory, ResNo, Seq};
@@ -138,7 +138,7 @@ fn a_set_has_each_value_once(rt: HostRuntime) {
 
 /// An entry of a task and an event, each with one value.
 fn entry_of(alloc: Global, block: u16, is_set: bool) -> Result<PlainEntry, Memory>
-    ensures { IfOk result (λ e. (length e.sets ≡ 2) × (entry_values e ≤ 2) × AreAscending e) }
+    ensures { IfOk result (λ e. (length e.sets ≡ 2) × (entry_values e ≤ 2) × HasAscendingSets e) }
 {
     let mut task = ValueSet::new(alloc, TASK);
     task.insert(live(block, None))?;

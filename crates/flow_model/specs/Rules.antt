@@ -4,7 +4,7 @@ use Rattle.osek_values.specs.declared.{event.Event.{Event}, status.Status.{Statu
 use Rattle.osek_standard.specs.{declared.{app.App.{App}, state.State.{State}, point.Point.{Point}}, Points.{point_of}, Effects.{effect}, Dispatch.{outcome}, Kernel.{step}}
 use Rattle.osek_standard.specs.{Outcomes.{Mark, Silent, Arrived, Did, shows}, Well.{IsActive}}
 use Rattle.abstract_state.specs.{declared.{value.PartValue.{PartValue}, table.PlainEntry.{PlainEntry}}, Components.{component_count, abstract_of}, Concrete.{HasParts}}
-use Rattle.abstract_state.specs.{Tables.{set_at, is_member, AreAscending}, Domains.{domains}}
+use Rattle.abstract_state.specs.{Tables.{set_at, is_member, HasAscendingSets}, Domains.{domains}}
 use Rattle.flow_model.specs.{declared.{case.Decision.{Decision}, rule.Rule.{Rule}}, Tests.{PassesAt, PassesAll, value_after}, Effects.{AreIn, IsAt}}
 use Rattle.flow_model.specs.Scheduling.{outcome_of_decision}
 
@@ -77,7 +77,7 @@ pub record Comes (rule : Rule) (entry : PlainEntry) (c : ℕ) (v : PartValue) : 
 -- Each set holds exactly what the rule makes of the old set's values that pass, of which there is one.
 pub record Applies (rule : Rule) (entry new : PlainEntry) : Type 0 where
   pub domains : domains new ≡ domains entry
-  pub ascending : AreAscending new
+  pub ascending : HasAscendingSets new
   pub from : (c : ℕ) (v : PartValue) → c < length entry.sets → IsTrue (is_member (set_at new c) v) → Comes rule entry c v
   pub to : (c : ℕ) (v : PartValue) → c < length entry.sets → IsTrue (is_member (set_at entry c) v) → PassesAt rule.conditions c v → IsTrue (is_member (set_at new c) (value_after rule.changes c v))
   pub filled : (c : ℕ) → c < length entry.sets → Taken rule entry c

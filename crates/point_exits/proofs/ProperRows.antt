@@ -6,7 +6,7 @@ use Rattle.osek_standard.specs.{declared.{app.App.{App}, point.Point.{Point}}, P
 use Rattle.abstract_state.specs.declared.value.Domain.{Domain}
 use Rattle.abstract_state.specs.declared.value.Component.TheVariants as component
 use Rattle.abstract_state.specs.{declared.table.{ValueSet.{ValueSet}, PlainEntry.{PlainEntry}}, Components.{components, component_at, component_count}, ValueOrder.{IsAscending}}
-use Rattle.abstract_state.specs.{Domains.{IsWithin, domain_of, domains, domains_of, HasMasks, IsSound, IsSoundEntry}, Tables.{set_at, empty_set, AreAscending, is_member}}
+use Rattle.abstract_state.specs.{Domains.{IsWithin, domain_of, domains, domains_of, HasMasks, IsSound, IsSoundEntry}, Tables.{set_at, empty_set, HasAscendingSets, is_member}}
 use Rattle.abstract_state.proofs.{OrderLaws.{part_laws}, DomainValues.{allowed_within}, HeightLaws.{entry_height_is, height_few}}
 use Rattle.flow_model.specs.Effects.{AreAllAllowed}
 use Rattle.numbered_sets.specs.PlainTables.{row_at}
@@ -37,7 +37,7 @@ module _ (app : App) (masks : HasMasks app) where
       ∙ get_or-map (domain_of app) (components app) c (component.Alarm (alarm_no 0))
 
   -- an ascending entry of allowed values is sound
-  pub sound_entry : (p : Point) (entry : PlainEntry) → domains entry ≡ domains_of app → AreAscending entry → AreAllAllowed app p entry → IsSoundEntry entry
+  pub sound_entry : (p : Point) (entry : PlainEntry) → domains entry ≡ domains_of app → HasAscendingSets entry → AreAllAllowed app p entry → IsSoundEntry entry
   sound_entry p entry same up allowed = record {
     sets = λ c d lt.
         let known : c < component_count app = omega (arith, lt, as_many_sets app entry same) in
@@ -52,7 +52,7 @@ module _ (app : App) (masks : HasMasks app) where
   }
 
   -- an entry that allowed values fill is a proper row's
-  pub proper_row : (p : Point) (entry : PlainEntry) → IsPoint app p → domains entry ≡ domains_of app → AreAscending entry → AreAllAllowed app p entry → IsFilled app entry → IsProperRow app (row_at p entry)
+  pub proper_row : (p : Point) (entry : PlainEntry) → IsPoint app p → domains entry ≡ domains_of app → HasAscendingSets entry → AreAllAllowed app p entry → IsFilled app entry → IsProperRow app (row_at p entry)
   proper_row p entry at same up allowed filled = record {
     row = record { point = at; sound = sound_entry p entry same up allowed; domains = same };
     allowed = allowed;

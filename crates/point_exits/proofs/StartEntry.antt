@@ -8,7 +8,7 @@ use Rattle.abstract_state.specs.declared.value.{Component.{Component}, Domain.{D
 use Rattle.abstract_state.specs.declared.value.Component.TheVariants as component
 use Rattle.abstract_state.specs.declared.table.{ValueSet.{ValueSet}, TableRow.{TableRow}}
 use Rattle.abstract_state.specs.{Components.{components, component_at, component_count, part_of, abstract_of, IsAllowed, IsComponent}, ValueOrder.{same_part, IsAscending}}
-use Rattle.abstract_state.specs.{Domains.{domain_of, domains, domains_of, HasMasks}, Tables.{Sets, Inductive, set_at, is_member, empty_set, AreAscending}}
+use Rattle.abstract_state.specs.{Domains.{domain_of, domains, domains_of, HasMasks}, Tables.{Sets, Inductive, set_at, is_member, empty_set, HasAscendingSets}}
 use Rattle.abstract_state.specs.Regular.{IsRegular}
 use Rattle.abstract_state.proofs.{ComponentLaws.{component_known}, OrderLaws.{part_itself, part_right, ascending_one}, AllowedLaws.{well_point, well_part}}
 use Rattle.flow_model.specs.Effects.{AreIn}
@@ -47,7 +47,7 @@ module _ (app : App) (s : State) where
   pub entry_domains : domains (entry_of app s) ≡ domains_of app
   entry_domains = same_domains (components app)
 
-  pub entry_ascends : AreAscending (entry_of app s)
+  pub entry_ascends : HasAscendingSets (entry_of app s)
   entry_ascends = All-map (λ (set : ValueSet). IsAscending set.members) set_of (components app) (λ i d lt. ascending_one (part_of s (get_or (components app) i d)))
 
   pub entry_has : AreIn app (entry_of app s) (abstract_of app s)

@@ -5,7 +5,7 @@ use Rattle.std.proofs.lemmas.List.Elements.{All-from_get_or}
 use Rattle.osek_standard.specs.declared.{app.App.{App}, point.Point.{Point}}
 use Rattle.osek_standard.proofs.Members.{Among, among_contained, contained_among, map_among, flat_map_among}
 use Rattle.abstract_state.specs.{declared.table.{ValueSet.{ValueSet}, TableRow.{TableRow}}, Domains.{HasMasks, domains, domains_of}, ValueOrder.{IsAscending}}
-use Rattle.abstract_state.specs.Tables.{empty_set, AreAscending}
+use Rattle.abstract_state.specs.Tables.{empty_set, HasAscendingSets}
 use Rattle.numbered_sets.specs.{declared.{numbered_entry.NumberedEntry.{NumberedEntry}, table.NumberedRow.{NumberedRow}}, Numbers.{has_number}, NumberedEntries.{numbers_at, number_domains, AreFilled}}
 use Rattle.numbered_sets.specs.{Pools.{Values, values_at, pool_domains, IsLonger}, Views.{values_with, plain_entry, AreNumbersOf}}
 use Rattle.numbered_sets.proofs.{PlainLaws.{ascending_in_order, plain_set_at}, ViewLaws.{same_domains}, KnownNumbers.{order_onward}}
@@ -22,7 +22,7 @@ use Rattle.state_flow.proofs.ExitRows.{exits_lead, exit_row_proper}
 use Rattle.state_flow.specs.ExitRows.{all_rows, AreProperRows}
 use Rattle.state_flow.proofs.ExitJoins.{its_row, rows_of_exits}
 
-plain_ascends : (pool : List Values) (entry : NumberedEntry) → AreAscending (plain_entry pool entry)
+plain_ascends : (pool : List Values) (entry : NumberedEntry) → HasAscendingSets (plain_entry pool entry)
 plain_ascends pool entry = All-from_get_or (λ (s : ValueSet). IsAscending s.members) (plain_entry pool entry).sets empty_set (λ k _.
     subst (λ (s : ValueSet). IsAscending s.members) (sym (plain_set_at pool entry k)) (ascending_in_order (values_with (values_at pool k) (has_number (numbers_at entry k)))))
 
@@ -50,11 +50,11 @@ by_numbers pool groups known x m =
     let k = known g.0 (among_contained groups g.0 g.1) in
     by_ends pool g.0 g.0.ends k.numbers k.ends x g.2
 
-pub exits_ordered : (app : App) (pool : List Values) (groups : List ExitGroup) → AreKnownGroups pool groups → pool_domains pool ≡ domains_of app → (x : Exit) → Contains (all_exits pool groups) x → (domains x.entry ≡ domains_of app) × AreAscending x.entry
+pub exits_ordered : (app : App) (pool : List Values) (groups : List ExitGroup) → AreKnownGroups pool groups → pool_domains pool ≡ domains_of app → (x : Exit) → Contains (all_exits pool groups) x → (domains x.entry ≡ domains_of app) × HasAscendingSets x.entry
 exits_ordered app pool groups known alike x m =
     let b = by_numbers pool groups known x m in (
       ap domains b.is ∙ plain_domains pool b.entry b.known ∙ alike,
-      subst AreAscending (sym b.is) (plain_ascends pool b.entry),
+      subst HasAscendingSets (sym b.is) (plain_ascends pool b.entry),
     )
 
 module _ (app : App) (masks : HasMasks app) (p : Point) (pool : List Values) (entry : NumberedEntry) (numbers : AreNumbersOf pool entry) (proper : IsProperRow app (row_at p (plain_entry pool entry))) where

@@ -7,7 +7,7 @@ use Rattle.osek_standard.specs.{declared.{app.App.{App}, state.State.{State}, po
 use Rattle.osek_standard.proofs.{Members.{among_contained, among_map, contained_among, map_among}, StepKeeps.{step_keeps}}
 use Rattle.abstract_state.specs.declared.{value.PartValue.{PartValue, TheVariants.{OfAlarm}}, table.{PlainEntry.{PlainEntry}, TableRow.{TableRow}}}
 use Rattle.abstract_state.specs.{Components.{component_count, abstract_of, IsAllowed}, Domains.{domains, domains_of, HasMasks}}
-use Rattle.abstract_state.specs.Tables.{Sets, In, Inductive, set_at, is_member, AreAscending}
+use Rattle.abstract_state.specs.Tables.{Sets, In, Inductive, set_at, is_member, HasAscendingSets}
 use Rattle.abstract_state.proofs.{AllowedLaws.{well_point, well_part}, RegularLaws.{step_regular}}
 use Rattle.flow_model.specs.Effects.{AreAllAllowed, IsAt}
 use Rattle.numbered_sets.specs.PlainTables.{row_at}
@@ -22,7 +22,7 @@ exit_row x = row_at x.target x.entry
 
 -- its sets are those of the components, each in order
 abbrev pub IsOrdered : App → Exit → Type 0
-IsOrdered app x = (domains x.entry ≡ domains_of app) × AreAscending x.entry
+IsOrdered app x = (domains x.entry ≡ domains_of app) × HasAscendingSets x.entry
 
 -- a step by the exit from a state of the entry, after which component c has this value
 record IsReachedBy (app : App) (p : Point) (entry : PlainEntry) (x : Exit) (c : ℕ) (v : PartValue) : Type 0 where
@@ -135,5 +135,5 @@ module _ (app : App) (masks : HasMasks app) (p : Point) (entry : PlainEntry) (ex
 
 -- The rows of a point's exits are what its steps lead to.
 pub exits_lead : (app : App) → HasMasks app → (p : Point) (entry : PlainEntry) → IsProperRow app (row_at p entry) → (exits : List Exit) → CoverSteps app p entry exits → AreExact app p entry exits
-    → ((x : Exit) → Contains exits x → (domains x.entry ≡ domains_of app) × AreAscending x.entry) → Leads app p entry (map (λ (x : Exit). row_at x.target x.entry) exits)
+    → ((x : Exit) → Contains exits x → (domains x.entry ≡ domains_of app) × HasAscendingSets x.entry) → Leads app p entry (map (λ (x : Exit). row_at x.target x.entry) exits)
 exits_lead app masks p entry proper exits covers exact ordered = record { covers = step_led app masks p entry exits exact ordered covers; each = each_reached app masks p entry exits exact ordered }

@@ -1,11 +1,11 @@
 use Rattle.std.proofs.Common.{rules, ◌∙◌, List, sym, ap, subst}
 use Rattle.std.specs.List.{insert}
-use Rattle.abstract_state.specs.{declared.value.PartValue.{PartValue}, ValueOrder.{ArePassed, IsAscending}, Tables.{IsPartOfJoin}}
+use Rattle.abstract_state.specs.{declared.value.PartValue.{PartValue}, ValueOrder.{AreBefore, IsAscending}, Tables.{IsPartOfJoin}}
 use Rattle.abstract_state.proofs.{JoinLaws.{IsJoinSoFar, join_found, join_put, join_stopped}, table.ValueSet.join_into.Goals.{in-Ok, in-Err+in_ok-put_in-in-Err}}
 use Rattle.abstract_state.proofs.table.ValueSet.join_into.Goals as goal
 
 pub search-requires : goal.search-requires
-search-requires c = subst (ArePassed c.loop-member.self.members c.loop-member.place) (sym c.member-item.is) (c.loop-member.invariant.passed c.member-item.result c.loop-member-test.true)
+search-requires c = subst (AreBefore c.loop-member.self.members c.loop-member.place) (sym c.member-item.is) (c.loop-member.invariant.passed c.member-item.result c.loop-member-test.true)
 
 pub returns-in_err-put_in-in-Err-clause-err : goal.returns-in_err-put_in-in-Err-clause-err
 returns-in_err-put_in-in-Err-clause-err c =
