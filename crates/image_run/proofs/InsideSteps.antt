@@ -6,24 +6,18 @@ use Rattle.std.specs.{Prelude.{is_some, if◌then◌else◌}, declared.option.Op
 use Rattle.osek_values.specs.declared.{event.Event.{Event, TheVariants.{Run, Irq, Tick}}, numbers.{SourceNo.{SourceNo}, TaskNo.{TaskNo}}, status.Ask.{Ask}}
 use Rattle.osek_values.specs.declared.status.Ask.TheVariants as ask
 use Rattle.osek_standard.specs.declared.{app.App.{App}, state.{State.{State}, Processor.{Processor}}}
-use Rattle.osek_standard.specs.declared.{task_state.Activity.{Activity, TheVariants.{Suspended, Live, Waiting}}}
-use Rattle.osek_standard.specs.{TaskStates.{is_inside, is_inside_in, is_live, is_live_activity}, Effects.{effect}}
-use Rattle.osek_standard.specs.{Internal.{IsInside, inside_as, internal_of, kept_by, put_inside, with_inside}}
+use Rattle.osek_standard.specs.{TaskStates.{is_inside, is_live}, Effects.{effect}}
+use Rattle.osek_standard.specs.{Internal.{IsInside, internal_of, kept_by, put_inside, with_inside}}
 use Rattle.osek_standard.specs.{States.{here, is_interrupted, is_that_task, task_of, task_state, with_latch, with_processor}, Line.{first_in_line, out_of_line}}
 use Rattle.osek_standard.specs.{Well.{HasProcessor, Well}}
 use Rattle.osek_standard.specs.{Arrivals.{arrival, entered}, Dispatch.{Outcome, Keep, To, Stepped, concluded, instruction, outcome_of, processor_for, silent}}
 use Rattle.osek_standard.specs.{Kernel.{entered_or, run_by}}
 use Rattle.osek_standard.specs.declared.state.Processor.TheVariants as processor
-use Rattle.osek_standard.proofs.{EffectKeeps.{effect_keeps}, FlagLaws.{effect_flags, interrupted_task}, InsideLaws.{IsNamed, IsRightOver, instruction_inside}}
+use Rattle.osek_standard.proofs.{EffectKeeps.{effect_keeps}, FlagLaws.{effect_flags, interrupted_task}, InsideLaws.{IsNamed, IsRightOver, as_put, instruction_inside}}
 use Rattle.osek_standard.proofs.{Keeps.{current_of, task_after}, PriorityLaws.{live_known}}
 use Rattle.image_model.specs.{declared.{site.{Form.{Form}, Site.{Site}}, image.Image.{Image}}}
 use Rattle.image_model.specs.{ImageStep.{formed_at, formed_by, image_step, instructed, kept_by as kept_at, site_at, stays}, Statuses.{allows_status}}
 use Rattle.image_model.specs.declared.site.Form.TheVariants as form
-
-as_put : (b : Bool) (a : Activity) → is_live_activity a ≡ true → is_inside_in (inside_as b a) ≡ b
-as_put b Suspended live = absurd (false≢true live)
-as_put b (Live x) live = refl
-as_put b (Waiting c) live = absurd (false≢true live)
 
 module _ (app : App) (s : State) (w : Well app s) (named : IsNamed app s) where
   -- a task that gets its INTERNAL resource, where it names one

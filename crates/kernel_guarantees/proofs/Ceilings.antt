@@ -9,10 +9,10 @@ use Rattle.osek_standard.specs.{Apps.{is_extended}, TaskStates.{held, holds, is_
 use Rattle.osek_standard.specs.{Internal.{internal_of, occupied}, Priority.{base_priority, ceiling, current_priority, highest}, Services.{Answer, get_resource}, Well.{Well}}
 use Rattle.osek_standard.specs.declared.state.Processor.TheVariants as processor
 use Rattle.osek_standard.specs.declared.state.Source.TheVariants as source
-use Rattle.osek_standard.proofs.Callers.{task_level_of}
+use Rattle.osek_standard.proofs.{Callers.{task_level_of}, Greatest.{greatest_of}}
 use Rattle.kernel_guarantees.specs.{Resources.{Holds, Occupies, OfTask}, Underway.{IsStacked, has_begun, is_current, is_first, is_underway}}
 use Rattle.kernel_guarantees.specs.Scheduling.{IsSettled}
-use Rattle.kernel_guarantees.proofs.{Greatest.{greatest_of, held_among}, Serving.{either_by}, StackSteps.{or_cases, or_rest}}
+use Rattle.kernel_guarantees.proofs.{Greatest.{held_among}, Serving.{either_by}, StackSteps.{or_cases, or_rest}}
 
 -- an entry passes where some entry passes
 pub some_entry : {X : Type 0} (p : X → Bool) (d : X) (xs : List X) → list_any p xs ≡ true → (k : ℕ) × (p (slice_index_or xs k d) ≡ true)

@@ -7,22 +7,18 @@ use Rattle.osek_values.specs.Numbers.{mask, task_no}
 use Rattle.oil_system.specs.declared.objects.Action.{Action}
 use Rattle.oil_system.specs.declared.objects.Action.TheVariants as action
 use Rattle.osek_standard.specs.declared.{app.App.{App}, block.Kind.{Kind}, state.{State.{State}, Processor.{Processor}}}
-use Rattle.osek_standard.specs.declared.task_state.{TaskState.{TaskState}, Activity.{Activity, TheVariants.{Suspended, Live, Waiting}}}
+use Rattle.osek_standard.specs.declared.task_state.{TaskState.{TaskState}, Activity.{Activity, TheVariants.{Live, Waiting}}}
 use Rattle.osek_standard.specs.{Apps.{awaited, is_extended, the_alarm, the_block}, TaskStates.{is_live, is_live_activity, is_suspended, is_suspended_activity, suspended}, States.{alarm_state, here, task_of, task_state, with_alarm, with_processor}}
-use Rattle.osek_standard.specs.{Internal.{inside_as, kept_by, put_inside, with_inside}, Line.{first_in_line, out_of_line}}
+use Rattle.osek_standard.specs.{Internal.{kept_by, put_inside, with_inside}, Line.{first_in_line, out_of_line}}
 use Rattle.osek_standard.specs.Services.{Answer, acted, due, events_set, expire, is_due_at, own_events, rearmed, released_from, set_event, share, value_of, waits_for, waits_in, woken}
 use Rattle.osek_standard.specs.{Effects.{Effect, effect, effect_at, place_at}, Well.{IsActive, Well}}
 use Rattle.osek_standard.specs.Dispatch.{Outcome, Keep, To, instruction, outcome_of, processor_for, settled}
 use Rattle.osek_standard.specs.declared.block.Kind.TheVariants as kind
 use Rattle.osek_standard.specs.declared.state.Processor.TheVariants as processor
+use Rattle.osek_standard.proofs.InsideKeeps.{inside_is_live}
 use Rattle.kernel_guarantees.specs.{Events.{SetsBy, SetsEvents}, Scheduling.{kind_at}}
 use Rattle.kernel_guarantees.proofs.{EventReleases.{after, due_after}, EventSends.{moving}, Letters.{waits_extended}, LockedSteps.{effect_is}, Lookups.{put_task}, Serving.{either_by}}
 use Rattle.kernel_guarantees.proofs.CallNames as call
-
-live_inside : (b : Bool) (a : Activity) → is_live_activity a ≡ true → is_live_activity (inside_as b a) ≡ true
-live_inside b Suspended e = e
-live_inside b (Live x) e = refl
-live_inside b (Waiting c) e = e
 
 module _ (app : App) where
   -- an outcome leaves who is Live so
@@ -31,7 +27,7 @@ module _ (app : App) where
     IsLiveIn r = is_live (task_state r u) ≡ true
 
     gets_inside : (r : State) (t : ℕ) (b : Bool) → IsLiveIn r → IsLiveIn (with_inside r t b)
-    gets_inside r t b h = put_task r t _ (λ v z. v ≡ u → is_live z ≡ true) (λ e. live_inside b (task_state r t).activity (subst (λ (n : ℕ). is_live (task_state r n) ≡ true) (sym e) h))
+    gets_inside r t b h = put_task r t _ (λ v z. v ≡ u → is_live z ≡ true) (λ e. inside_is_live b (task_state r t).activity (subst (λ (n : ℕ). is_live (task_state r n) ≡ true) (sym e) h))
         (λ v e. subst (λ (n : ℕ). is_live (task_state r n) ≡ true) (sym e) h) u refl
 
     keeping : (r : State) (p : Processor) → IsLiveIn r → IsLiveIn (kept_by app r p)

@@ -1,27 +1,14 @@
 -- The greatest of a number and of what the elements of a list give.
 use Rattle.std.proofs.{Common.{◌≡◌, ℕ, ◌≤◌, max, Bool, true, false, ◌||◌, List, [], ◌∷◌, refl, sym, ap, ◌∙◌, ◌⊎◌, inl, inr, arith, nat_eq}}
 use Rattle.std.proofs.{lemmas.Bool.{cases_lt, eq-eqb, eqb-true, false≢true}}
-use Rattle.std.specs.List.{fold}
 use Rattle.osek_values.specs.declared.numbers.ResNo.{ResNo}
 use Rattle.osek_standard.specs.{declared.app.App.{App}, TaskStates.{holds}, Priority.{ceiling, highest}, Levels.{highest_level, interrupt_ceiling}}
-use Rattle.osek_standard.proofs.Members.{Among}
+use Rattle.osek_standard.proofs.{Greatest.{greatest, greatest_from, greatest_of}, Members.{Among}}
 use Rattle.kernel_guarantees.proofs.StackSteps.{or_cases}
 
 module _ {X : Type 0} (f : X → ℕ) where
-  abbrev pub greatest : ℕ → List X → ℕ
-  greatest n xs = fold (λ m x. max m (f x)) n xs
-
-  pub greatest_from : (n : ℕ) (xs : List X) → n ≤ greatest n xs
-  greatest_from n [] = omega arith
-  greatest_from n (x ∷ xs) = omega (arith, greatest_from (max n (f x)) xs)
-
-  pub greatest_of : (n : ℕ) (xs : List X) (x : X) → Among x xs → f x ≤ greatest n xs
-  greatest_of n [] x m = absurd m
-  greatest_of n (y ∷ xs) x (inl e) = omega (arith, greatest_from (max n (f y)) xs, ap f e)
-  greatest_of n (y ∷ xs) x (inr m) = greatest_of (max n (f y)) xs x m
-
   -- it is one of them
-  pub greatest_is : (n : ℕ) (xs : List X) → (greatest n xs ≡ n) ⊎ ((x : X) × Among x xs × (greatest n xs ≡ f x))
+  pub greatest_is : (n : ℕ) (xs : List X) → (greatest f n xs ≡ n) ⊎ ((x : X) × Among x xs × (greatest f n xs ≡ f x))
   greatest_is n [] = inl refl
   greatest_is n (y ∷ xs) = elim (greatest_is (max n (f y)) xs) [
     | inl e ↦ elim (cases_lt n (f y)) [

@@ -13,11 +13,11 @@ use Rattle.osek_standard.specs.{Effects.{effect, halted_by, moved_by, returned_t
 use Rattle.osek_standard.specs.Dispatch.{Outcome, Keep, To, if_any, instruction, outcome_of, settled}
 use Rattle.osek_standard.specs.declared.state.Processor.TheVariants as processor
 use Rattle.osek_standard.specs.declared.state.Source.TheVariants as source
-use Rattle.osek_standard.proofs.{ArrivalLaws.{arrival_is}, Callers.{task_level_of}, Keeps.{live_at_processor}, NestLaws.{entered_known, next_is, none_next}, StepKeeps.{initial_is_well, instruction_keeps, start_is_well}, EffectKeeps.{effect_keeps}, Members.{among_range}}
+use Rattle.osek_standard.proofs.{ArrivalLaws.{arrival_is}, Callers.{task_level_of}, Greatest.{greatest_from, greatest_of}, Keeps.{live_at_processor}, NestLaws.{entered_known, next_is, none_next}, StepKeeps.{initial_is_well, instruction_keeps, start_is_well}, EffectKeeps.{effect_keeps}, Members.{among_range}}
 use Rattle.osek_standard.specs.declared.block.Kind.{Kind}
 use Rattle.kernel_guarantees.specs.Scheduling.{kind_at}
 use Rattle.kernel_guarantees.specs.{Nesting.{IsIn, IsNested, level_of}, Reached.{IsReached}}
-use Rattle.kernel_guarantees.proofs.{Deeds.{AreDeeds}, Effecting.{effect_does}, Greatest.{greatest_from, greatest_of, held_among}, Lookups.{each_is_out, put_source, put_task}, Reaching.{reached_has, step_goes}}
+use Rattle.kernel_guarantees.proofs.{Deeds.{AreDeeds}, Effecting.{effect_does}, Greatest.{held_among}, Lookups.{each_is_out, put_source, put_task}, Reaching.{reached_has, step_goes}}
 
 module _ (app : App) where
   -- levels under more and under fewer resources

@@ -5,24 +5,19 @@ use Rattle.std.specs.declared.option.Option.{Option}
 use Rattle.osek_values.specs.declared.{numbers.{BlockNo.{BlockNo}, ResNo.{ResNo}}, status.Ask.{Ask}}
 use Rattle.osek_values.specs.declared.status.Ask.TheVariants as ask
 use Rattle.osek_standard.specs.declared.{app.App.{App}, block.Kind.{Kind}, call.Call.{Call}, state.{State.{State}, Processor.{Processor}, Caller.{Caller, TheVariants.{Nobody, Routine, Task}}}}
-use Rattle.osek_standard.specs.declared.task_state.{Place.{Place}, Activity.{Activity, TheVariants.{Suspended, Live, Waiting}}}
-use Rattle.osek_standard.specs.{Apps.{is_cycle, is_extended, max_of, the_block}, TaskStates.{held, is_inside, is_inside_in, is_suspended}, States.{alarm_state, caller, here, is_taken, is_that_task, task_of, task_state}, Internal.{IsInside, kept}}
+use Rattle.osek_standard.specs.declared.task_state.{Place.{Place}}
+use Rattle.osek_standard.specs.{Apps.{is_cycle, is_extended, max_of, the_block}, TaskStates.{held, is_inside, is_suspended}, States.{alarm_state, caller, here, is_taken, is_that_task, task_of, task_state}, Internal.{IsInside, kept}}
 use Rattle.osek_standard.specs.{Priority.{base_priority, ceiling}, Levels.{interrupt_ceiling, own_level}, Well.{IsActive}}
 use Rattle.osek_standard.specs.Services.{Answer, activate_task, cancel_alarm, chain_task, clear_event, due, get_alarm, get_event, get_resource, get_resource_by, get_resource_isr, holds_some, is_full, is_idle, is_on_top}
 use Rattle.osek_standard.specs.Services.{release_resource, release_resource_by, release_resource_isr, schedule, set_abs_alarm, set_event, set_rel_alarm, share, stack_of_source, terminate_task, time_left, wait_event, waits_for}
-use Rattle.osek_standard.specs.Effects.{Effect, asked_by, asks_as, effect, effect_at, goes_on_unless_left, is_error, moved_by, moved_to, noted, place_at, row, standing_at, task_at}
+use Rattle.osek_standard.specs.Effects.{Effect, asked_by, asks_as, effect, effect_at, goes_on_unless_left, is_error, moved_by, moved_to, noted, place_at, row, task_at}
 use Rattle.osek_standard.specs.Dispatch.{instruction, outcome_by, outcome_of, settled}
 use Rattle.osek_standard.specs.declared.block.Kind.TheVariants as kind
 use Rattle.osek_standard.specs.declared.state.Processor.TheVariants as processor
-use Rattle.osek_standard.proofs.{Callers.{moved_processor}, InsideLaws.{kept_is_same}}
+use Rattle.osek_standard.proofs.{Callers.{moved_processor}, FlagLaws.{moved_flag}, InsideLaws.{kept_is_same}}
 use Rattle.kernel_guarantees.specs.Scheduling.{kind_at}
 use Rattle.kernel_guarantees.proofs.{LockedSteps.{effect_is}, Lookups.{put_task}, Serving.{asks_no, either_by}}
 use Rattle.kernel_guarantees.proofs.CallNames as call
-
-inside_at : (to : Place) (a : Activity) → is_inside_in (standing_at a to) ≡ is_inside_in a
-inside_at to Suspended = refl
-inside_at to (Live x) = refl
-inside_at to (Waiting b) = refl
 
 module _ (app : App) (m : State) where
   -- where it is refused, the state is as it was
@@ -167,7 +162,7 @@ module _ (app : App) (s : State) where
   same_inside : (to : Place) (p : Processor) (t : ℕ) → is_inside (task_state (moved_by s p to) t) ≡ is_inside (task_state s t)
   same_inside to processor.Halted t = refl
   same_inside to processor.Idle t = refl
-  same_inside to (processor.Running c) t = put_task s c.0 (task_at (task_state s c.0) to) (λ v y. is_inside y ≡ is_inside (task_state s v)) (inside_at to (task_state s c.0).activity) (λ v. refl) t
+  same_inside to (processor.Running c) t = put_task s c.0 (task_at (task_state s c.0) to) (λ v y. is_inside y ≡ is_inside (task_state s v)) (moved_flag to (task_state s c.0).activity) (λ v. refl) t
   same_inside to (processor.Interrupted k over) t = refl
 
   moved_inside : IsInside app s → (to : Place) → IsInside app (moved_by s s.processor to)

@@ -1,5 +1,5 @@
 -- What holds after each deed holds after each service.
-use Rattle.std.proofs.Common.{◌≡◌, ◌≢◌, ℕ, ◌+◌, ◌%◌, ◌<◌, ◌≤◌, Bool, true, false, cond, length, refl, sym, ◌∙◌, ap, subst, arith, not, ◌||◌, ◌&&◌, nat_lt, nat_eq, Some, None}
+use Rattle.std.proofs.Common.{◌≡◌, ◌≢◌, ℕ, ◌<◌, ◌≤◌, Bool, true, false, cond, length, refl, sym, ◌∙◌, ap, subst, arith, not, ◌||◌, ◌&&◌, nat_lt, nat_eq, Some, None}
 use Rattle.std.proofs.lemmas.Bool.{eq-eqb, eqb-false, false≢true, not-false, or_parts, Decides.{nat_tests}}
 use Rattle.std.specs.{declared.option.Option.{Option}}
 use Rattle.osek_values.specs.declared.{mask.Mask.{Mask}, numbers.{BlockNo.{BlockNo}, ResNo.{ResNo}, TaskNo.{TaskNo}}, status.Ask.{Ask}}
@@ -10,7 +10,7 @@ use Rattle.oil_system.specs.declared.objects.Action.TheVariants as action
 use Rattle.osek_standard.specs.declared.{app.App.{App}, block.Kind.{Kind}}
 use Rattle.osek_standard.specs.declared.state.{State.{State}, AlarmState.{AlarmState, TheVariants.{Idle, Armed}}, Processor.{Processor}, Caller.{Caller, TheVariants.{Nobody, Task, Routine}}}
 use Rattle.osek_standard.specs.{Apps.{awaited, tables, the_alarm, the_block, the_task, is_counter, is_cycle, is_extended, is_routine_end, max_of, may_dispatch, no_alarm}, TaskStates.{held, is_suspended}, States.{alarm_state, caller, here, is_taken, task_state, with_alarm, with_source}}
-use Rattle.osek_standard.specs.{Priority.{base_priority, ceiling}, Levels.{interrupt_ceiling, next_routine, own_level}, Well.{Well, IsAlarmState}, Validity.{IsAction}}
+use Rattle.osek_standard.specs.{Priority.{base_priority, ceiling}, Levels.{interrupt_ceiling, next_routine, own_level}, Well.{Well}, Validity.{IsAction}}
 use Rattle.osek_standard.specs.Services.{Answer, acted, activate_task, cancel_alarm, chain_task, clear_event, counted_by, due, expire, get_alarm, get_event, get_resource, get_resource_by}
 use Rattle.osek_standard.specs.Services.{get_resource_isr, holds_some, is_due_at, is_full, is_idle, is_on_top, rearmed, release_resource, release_resource_by, release_resource_isr, schedule}
 use Rattle.osek_standard.specs.Services.{set_abs_alarm, set_event, set_rel_alarm, share, stack_of_source, terminate_task, time_left, value_of, wait_event, waits_for}
@@ -18,7 +18,7 @@ use Rattle.osek_standard.specs.Effects.{asked_by, asked_over, asked_under, end_t
 use Rattle.osek_standard.specs.declared.block.Kind.TheVariants as kind
 use Rattle.osek_standard.specs.declared.state.Processor.TheVariants as processor
 use Rattle.osek_standard.specs.declared.state.Source.TheVariants as source
-use Rattle.osek_standard.proofs.{AlarmKeeps.{with_alarm_keeps, cancel_alarm_keeps, counted_by_keeps, set_abs_alarm_keeps, set_rel_alarm_keeps}, Callers.{IsAtProcessor, at_processor}, TaskServiceKeeps.{room_to_chain}}
+use Rattle.osek_standard.proofs.{AlarmKeeps.{with_alarm_keeps, cancel_alarm_keeps, counted_by_keeps, rearmed_is_right, set_abs_alarm_keeps, set_rel_alarm_keeps}, Callers.{IsAtProcessor, at_processor}, TaskServiceKeeps.{room_to_chain}}
 use Rattle.kernel_guarantees.specs.{Alarms.{AlarmBecomes}, Instructions.{action_activates, action_sets, is_end, is_wait, may_activate, may_clear, may_set}}
 use Rattle.kernel_guarantees.proofs.Deeds.{AreDeeds, asked_of}
 use Rattle.kernel_guarantees.proofs.CallNames as call
@@ -45,14 +45,6 @@ asks_maybe app (Task t) k e = asks_full (the_task app t.0).schedule k e
 pub asks_at_schedule : (x : Schedule) (k : Kind) → is_schedule k ≡ true → asked_under x k ≡ ask.Maybe
 asks_at_schedule Full k e = refl
 asks_at_schedule Non k e = ap (λ (b : Bool). cond b ask.Maybe ask.No) e
-
-below_round : (n m : ℕ) → n % (m + 1) ≤ m
-below_round n m = omega arith
-
--- an alarm that is armed anew is armed rightly
-rearmed_right : (app : App) (a : ℕ) (x : AlarmState) → IsAlarmState app a x → IsAlarmState app a (rearmed app a x)
-rearmed_right app a Idle h = tt
-rearmed_right app a (Armed at cycle) h = either_by (IsAlarmState app a) (nat_eq cycle 0) _ _ (λ _. tt) (λ _. record { at_most = below_round (at + cycle) (max_of app a); round = h.round })
 
 -- a task that calls has the processor
 pub running : (m : State) (t : TaskNo) → caller m.processor ≡ Task t → m.processor ≡ processor.Running t
@@ -195,7 +187,7 @@ module _ (app : App) (K : Kind) (Q : State → Type 0) (P : State → Ask → Ty
     unfolding expire
     expire_does f none_stays a known none is goes sends =
         let x = rearmed app a (alarm_state m a) in
-        let right = rearmed_right app a (alarm_state m a) (w.alarms a known) in
+        let right = rearmed_is_right app a (alarm_state m a) (w.alarms a known) in
         either_by (λ (b : Answer). P b.state (f b.ask)) (is_due_at (due (alarm_state m a)) (value_of app m a)) _ _
         (λ on. subst (P _) (sym none_stays) (acted_does (with_alarm m a x) (with_alarm_keeps app m a x w known right) (d.arms m a x q (subst (λ (n : Kind). AlarmBecomes app m a n x) (sym is) (refl, on, refl))) (λ _. ask.No) refl (sym none)
         (the_alarm app a).action (app.valid.each_alarm a no_alarm known).action goes sends))

@@ -15,11 +15,11 @@ use Rattle.osek_standard.specs.{Effects.{asked_over, effect, halted_by, moved_by
 use Rattle.osek_standard.specs.Dispatch.{Outcome, dispatched, if_above, if_any, instruction, outcome_by, preempted_by, settled}
 use Rattle.osek_standard.specs.declared.state.Processor.TheVariants as processor
 use Rattle.osek_standard.specs.declared.state.Source.TheVariants as source
-use Rattle.osek_standard.proofs.{ArrivalLaws.{arrival_is}, Callers.{moved_processor}, PriorityLaws.{best_is, none_live}}
+use Rattle.osek_standard.proofs.{ArrivalLaws.{arrival_is}, Callers.{moved_processor}, Greatest.{greatest_from}, PriorityLaws.{best_is, none_live}}
 use Rattle.osek_standard.specs.declared.block.Kind.{Kind}
 use Rattle.kernel_guarantees.specs.Scheduling.{kind_at}
 use Rattle.kernel_guarantees.specs.{Reached.{IsReached}, Scheduling.{IsSettled}, Underway.{is_begun, is_underway}}
-use Rattle.kernel_guarantees.proofs.{Deeds.{AreDeeds, asked_of}, Effecting.{effect_does}, Greatest.{greatest_from}, Lookups.{put_task}, Reaching.{reached_has, step_goes}, Regrouping.{IsAlike, alike}}
+use Rattle.kernel_guarantees.proofs.{Deeds.{AreDeeds, asked_of}, Effecting.{effect_does}, Lookups.{put_task}, Reaching.{reached_has, step_goes}, Regrouping.{IsAlike, alike}}
 use Rattle.kernel_guarantees.proofs.{Serving.{either_by, running}, StackedDeeds.{activated_fresh, of_extended}, StackedSteps.{not_live}}
 
 -- more resources don't lower a priority

@@ -4,8 +4,8 @@ use Rattle.osek_values.specs.declared.numbers.{ResNo.{ResNo}}
 use Rattle.osek_standard.specs.declared.{app.App.{App}, state.State.{State}}
 use Rattle.osek_standard.specs.{Apps.{is_extended}, TaskStates.{is_live}, States.{task_state}, Internal.{occupied}, Line.{turn}}
 use Rattle.osek_standard.specs.Priority.{IsBest, base_priority, ceiling, current_priority, highest}
+use Rattle.osek_standard.proofs.Greatest.{greatest_from}
 use Rattle.kernel_guarantees.specs.Underway.{IsStacked, has_begun, is_current, is_first, is_underway}
-use Rattle.kernel_guarantees.proofs.Greatest.{greatest_from}
 
 and_first : (b c : Bool) → (b && c) ≡ true → b ≡ true
 and_first true c e = refl

@@ -20,7 +20,7 @@ below_round n m = omega arith
 counted : (v m : ℕ) → v ≤ m → (if nat_eq v m then 0 else v + 1) ≤ m
 counted v m h = elim (cases_Bool (nat_eq v m)) [ inl e ↦ (rw e (omega arith)) | inr e ↦ (rw e (grind (arith, nat_tests))) ]
 
-rearmed_is_right : (app : App) (a : ℕ) (x : AlarmState) → IsAlarmState app a x → IsAlarmState app a (rearmed app a x)
+pub rearmed_is_right : (app : App) (a : ℕ) (x : AlarmState) → IsAlarmState app a x → IsAlarmState app a (rearmed app a x)
 rearmed_is_right app a Idle h = tt
 rearmed_is_right app a (Armed at cycle) h = elim (cases_Bool (nat_eq cycle 0)) [
   | inl e ↦ (rw e tt)

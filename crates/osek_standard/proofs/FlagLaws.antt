@@ -103,7 +103,7 @@ stack_flag g Suspended = refl
 stack_flag g (Live x) = refl
 stack_flag g (Waiting b) = refl
 
-moved_flag : (p : Place) (a : Activity) → is_inside_in (standing_at a p) ≡ is_inside_in a
+pub moved_flag : (p : Place) (a : Activity) → is_inside_in (standing_at a p) ≡ is_inside_in a
 moved_flag p Suspended = refl
 moved_flag p (Live x) = refl
 moved_flag p (Waiting b) = refl

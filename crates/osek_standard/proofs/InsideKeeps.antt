@@ -13,7 +13,7 @@ inside_is_right app t b Suspended h = h
 inside_is_right app t b (Live x) h = record { own = h.own; offset = h.offset; stack = h.stack; further = h.further }
 inside_is_right app t b (Waiting c) h = h
 
-inside_is_live : (b : Bool) (a : Activity) → is_live_activity a ≡ true → is_live_activity (inside_as b a) ≡ true
+pub inside_is_live : (b : Bool) (a : Activity) → is_live_activity a ≡ true → is_live_activity (inside_as b a) ≡ true
 inside_is_live b Suspended h = h
 inside_is_live b (Live x) h = refl
 inside_is_live b (Waiting c) h = h

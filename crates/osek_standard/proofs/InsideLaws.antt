@@ -25,7 +25,7 @@ IsNamed app s = (t : ℕ) → is_inside (task_state s t) ≡ true → is_some (i
 abbrev pub IsRightOver : App → State → Type 0
 IsRightOver app s = (t : ℕ) → is_that_task (interrupted_task s.processor) t ≡ true → is_inside (task_state s t) ≡ is_some (internal_of app t)
 
-as_put : (b : Bool) (a : Activity) → is_live_activity a ≡ true → is_inside_in (inside_as b a) ≡ b
+pub as_put : (b : Bool) (a : Activity) → is_live_activity a ≡ true → is_inside_in (inside_as b a) ≡ b
 as_put b Suspended live = absurd (cc)
 as_put b (Live x) live = refl
 as_put b (Waiting c) live = absurd (cc)

@@ -1,28 +1,15 @@
 -- The interrupt level is above the routine at the processor, and at task level it is the task's own.
-use Rattle.std.proofs.{Common.{◌≡◌, ℕ, ◌+◌, ◌<◌, ◌≤◌, false, List, [], ◌∷◌, length, refl, ap, ◌∙◌, inl, inr, arith}}
-use Rattle.std.specs.{Prelude.{max}, List.{fold, range_with_len}, declared.option.Option.{Option}}
+use Rattle.std.proofs.{Common.{◌≡◌, ℕ, ◌<◌, ◌≤◌, false, List, [], ◌∷◌, length, refl, ap, ◌∙◌, inl, inr, arith}}
+use Rattle.std.specs.{Prelude.{max}, List.{range_with_len}, declared.option.Option.{Option}}
 use Rattle.osek_values.specs.declared.numbers.{TaskNo.{TaskNo}, SourceNo.{SourceNo}, ResNo.{ResNo}}
 use Rattle.osek_standard.specs.declared.{app.App.{App}, state.{State.{State}, Source.{Source}}}
 use Rattle.osek_standard.specs.{Apps.{source_priority}, States.{is_interrupted, source_state, task_of}}
 use Rattle.osek_standard.specs.{Levels.{highest_level, interrupt_ceiling, level, own_level, routine_level, task_level}, Well.{Well, IsRoutine, IsRunningAt}}
 use Rattle.osek_standard.specs.declared.state.Source.TheVariants as source
-use Rattle.osek_standard.proofs.{Members.{Among, among_range}, WellLaws.{out_at_task_level}}
+use Rattle.osek_standard.proofs.{Greatest.{greatest, greatest_from, greatest_of}, Members.{Among, among_range}, WellLaws.{out_at_task_level}}
 
 module _ {X : Type 0} (f : X → ℕ) where
-  -- the greatest of a number and of what the elements give
-  abbrev greatest : ℕ → List X → ℕ
-  greatest n xs = fold (λ m x. max m (f x)) n xs
-
-  greatest_from : (n : ℕ) (xs : List X) → n ≤ greatest n xs
-  greatest_from n [] = omega arith
-  greatest_from n (x ∷ xs) = omega (arith, greatest_from (max n (f x)) xs)
-
-  greatest_of : (n : ℕ) (xs : List X) (x : X) → Among x xs → f x ≤ greatest n xs
-  greatest_of n [] x m = absurd m
-  greatest_of n (y ∷ xs) x (inl e) = omega (arith, greatest_from (max n (f y)) xs, ap f e)
-  greatest_of n (y ∷ xs) x (inr m) = greatest_of (max n (f y)) xs x m
-
-  pub greatest_is : (n : ℕ) (xs : List X) → ((x : X) → Among x xs → f x ≡ 0) → greatest n xs ≡ n
+  pub greatest_is : (n : ℕ) (xs : List X) → ((x : X) → Among x xs → f x ≡ 0) → greatest f n xs ≡ n
   greatest_is n [] none = refl
   greatest_is n (x ∷ xs) none = greatest_is (max n (f x)) xs (λ y m. none y (inr m)) ∙ omega (arith, none x (inl refl))
 

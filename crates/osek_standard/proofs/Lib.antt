@@ -9,6 +9,7 @@ pub mod PlaceLaws
 pub mod TurnLaws
 pub mod AheadLaws
 pub mod NestLaws
+pub mod Greatest
 pub mod LevelLaws
 pub mod LineLaws
 pub mod PriorityLaws
