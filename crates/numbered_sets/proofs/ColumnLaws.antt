@@ -2,7 +2,7 @@
 use Rattle.std.proofs.Common.{◌≡◌, ◌≢◌, ℕ, ◌+◌, ◌*◌, ◌/◌, ◌%◌, ◌<◌, List, [], ◌∷◌, ◌++◌, length, get_or, set, sym, ap, ap₂, subst, ◌∙◌, inl, inr, arith}
 use Rattle.std.proofs.{Math.Seq.{get_or-append_seam}, lemmas.{Bool.{cases_eq, cases_lt}, Nat.{div-add-mod', div-mul-add, mod-mul-add}}}
 use Rattle.std.proofs.lemmas.List.{length-append, get_or_append_left, get_or-set_same, get_or-set_other}
-use Rattle.numbered_sets.specs.Slots.{IsPlaceOf, IsUnused, none, number_in, AreNumbersBySlot, AreSameNumbers, IsRoomAt}
+use Rattle.numbered_sets.specs.Slots.{IsNumberOfSlot, IsUnused, none, number_in, AreNumbersBySlot, AreSameNumbers, IsRoomAt}
 
 -- a column with other numbers
 numbers_there : (columns : List (List ℕ)) (column : ℕ) (numbers : List ℕ) → column < length columns → (r : ℕ) → number_in (set columns column numbers) column r ≡ get_or numbers r none
@@ -16,7 +16,7 @@ numbers_stay width used columns after same h = record {
   wide = h.wide;
   few = h.few;
   each = λ n d lt. same.each (get_or used n d % width) (get_or used n d / width) ∙ h.each n d lt;
-  only = λ c r lt some. subst (IsPlaceOf used (r * width + c)) (sym (same.each c r)) (h.only c r lt (λ e. some (same.each c r ∙ e)));
+  only = λ c r lt some. subst (IsNumberOfSlot used (r * width + c)) (sym (same.each c r)) (h.only c r lt (λ e. some (same.each c r ∙ e)));
 }
 
 -- ---- what was found
@@ -32,10 +32,10 @@ unused_at width used columns column row h lt is = record {
 
 -- ---- a slot gets the next number
 
-pub place_stays : (used more : List ℕ) (s n : ℕ) → IsPlaceOf used s n → IsPlaceOf (used ++ more) s n
+pub place_stays : (used more : List ℕ) (s n : ℕ) → IsNumberOfSlot used s n → IsNumberOfSlot (used ++ more) s n
 place_stays used more s n h = record { known = omega (arith, h.known, length-append used more); is = λ d. get_or_append_left used more d n h.known ∙ h.is d }
 
-pub last_place : (used : List ℕ) (s : ℕ) → IsPlaceOf (used ++ s ∷ []) s (length used)
+pub last_place : (used : List ℕ) (s : ℕ) → IsNumberOfSlot (used ++ s ∷ []) s (length used)
 last_place used s = record { known = omega (arith, length-append used (s ∷ [])); is = λ d. get_or-append_seam used s [] d }
 
 module _ (width : ℕ) (used : List ℕ) (columns : List (List ℕ)) (slot : ℕ) (h : AreNumbersBySlot width used columns) (unused : IsUnused used slot) (few : length used < none) (room : IsRoomAt columns (slot % width) (slot / width)) where
@@ -69,22 +69,22 @@ module _ (width : ℕ) (used : List ℕ) (columns : List (List ℕ)) (slot : ℕ
         subst (λ (s : ℕ). number_in with_number (s % width) (s / width) ≡ n) (sym (ap (λ (k : ℕ). get_or (used ++ slot ∷ []) k d) last ∙ get_or-append_seam used slot [] d)) (put_there ∙ sym last))
   ]
 
-  place_of_each : (c r : ℕ) → c < width → number_in with_number c r ≢ none → IsPlaceOf (used ++ slot ∷ []) (r * width + c) (number_in with_number c r)
+  place_of_each : (c r : ℕ) → c < width → number_in with_number c r ≢ none → IsNumberOfSlot (used ++ slot ∷ []) (r * width + c) (number_in with_number c r)
   place_of_each c r lt some = elim (cases_eq c (slot % width)) [
     | inl here ↦ elim (cases_eq r (slot / width)) [
       | inl there ↦
           (let its : r * width + c ≡ slot = ap₂ (λ (x y : ℕ). x * width + y) there here ∙ div-add-mod' slot width in
           let number : number_in with_number c r ≡ length used = ap₂ (number_in with_number) here there ∙ put_there in
-          subst (λ (s : ℕ). IsPlaceOf (used ++ slot ∷ []) s (number_in with_number c r)) (sym its) (subst (IsPlaceOf (used ++ slot ∷ []) slot) (sym number) (last_place used slot)))
+          subst (λ (s : ℕ). IsNumberOfSlot (used ++ slot ∷ []) s (number_in with_number c r)) (sym its) (subst (IsNumberOfSlot (used ++ slot ∷ []) slot) (sym number) (last_place used slot)))
       | inr differ ↦ stays (λ same also. differ also)
     ]
     | inr differ ↦ stays (λ same also. differ same)
   ]
     where
-      stays : (c ≡ slot % width → r ≡ slot / width → ⊥) → IsPlaceOf (used ++ slot ∷ []) (r * width + c) (number_in with_number c r)
+      stays : (c ≡ slot % width → r ≡ slot / width → ⊥) → IsNumberOfSlot (used ++ slot ∷ []) (r * width + c) (number_in with_number c r)
       stays differ =
           (let same = others_stay c r differ in
-          subst (IsPlaceOf (used ++ slot ∷ []) (r * width + c)) (sym same) (place_stays used (slot ∷ []) (r * width + c) (number_in columns c r) (h.only c r lt (λ e. some (same ∙ e)))))
+          subst (IsNumberOfSlot (used ++ slot ∷ []) (r * width + c)) (sym same) (place_stays used (slot ∷ []) (r * width + c) (number_in columns c r) (h.only c r lt (λ e. some (same ∙ e)))))
 
   pub numbers_with : AreNumbersBySlot width (used ++ slot ∷ []) with_number
   numbers_with = record { wide = h.wide; few = omega (arith, few, length-append used (slot ∷ [])); each = number_of_each; only = place_of_each }

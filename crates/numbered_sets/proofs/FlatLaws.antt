@@ -8,7 +8,7 @@ use Rattle.bit_words.specs.{Words.{bits_of_words, AreWords}, Further.{further_at
 use Rattle.bit_words.proofs.{WordLaws.{small_at}, FirstWords.{word_first, same_further, ones_first, ones_of_two, either_two, none_first, bits_of_none}}
 use Rattle.abstract_state.specs.declared.value.Domain.{Domain}
 use Rattle.abstract_state.specs.declared.value.Domain.TheVariants as domain
-use Rattle.numbered_sets.specs.{Numbers.{Numbers, numbers, joined_numbers, number_count}, SetLists.{set_of, all_numbers, AreJoined}, FlatSets.{words_at, flat_sets}}
+use Rattle.numbered_sets.specs.{Numbers.{Numbers, numbers, joined_numbers, number_count}, SetLists.{set_of, all_numbers, AreJoinedSets}, FlatSets.{words_at, flat_sets}}
 use Rattle.numbered_sets.proofs.NumberLattice.{same_sets}
 
 pub flat_length : (ds : List Domain) (low high : List ℕ) (more : List (Vec ℕ)) → length (flat_sets ds low high more) ≡ length ds
@@ -212,7 +212,7 @@ further_as_many (x ∷ xs) (y ∷ ys) same =
 module _ (ds its : List Domain) (low high low_too high_too low_new high_new : List ℕ) (more more_too more_new : List (Vec ℕ)) (xs ys : List Numbers)
     (is : flat_sets ds low high more ≡ xs) (is_too : flat_sets its low_too high_too more_too ≡ ys) where
   pub flat_joined : length xs ≡ length ys → AreWords low → AreWords high → AreWords low_too → AreWords high_too → AreWordsJoined low low_too low_new → AreWordsJoined high high_too high_new
-      → ((k : ℕ) → further_bits more_new k ≡ bit_or (further_bits more k) (further_bits more_too k)) → AreJoined xs ys (flat_sets ds low_new high_new more_new)
+      → ((k : ℕ) → further_bits more_new k ≡ bit_or (further_bits more k) (further_bits more_too k)) → AreJoinedSets xs ys (flat_sets ds low_new high_new more_new)
   flat_joined long small small_high small_too small_high_too first second third =
       let many = as_many ds low high more xs is in
       let many_too = as_many its low_too high_too more_too ys is_too in

@@ -13,7 +13,7 @@ use Rattle.flow_model.specs.{declared.change.Update.TheVariants.{Block}, Values.
 use Rattle.numbered_sets.specs.Pools.{Values, with_value, AreNumbered, IsNumberOf}
 use Rattle.numbered_sets.specs.Slots.{val_in, source_in, value_in, slot_values, blocks_of, IsTaskSlot, IsSourceSlot, IsSlot, AreSlots, IsSlotInRow, IsTaskSlotOf, IsSourceSlotOf, IsSlotOf, AreMoreLoads}
 use Rattle.numbered_sets.specs.{declared.{loads.Load.{Load}, slot_values.{BlockColumn.{BlockColumn}, SlotPlace.{SlotPlace}}}, SeenSlots.{AreSeen}}
-use Rattle.numbered_sets.specs.Slots.{IsPlaceOf, IsUnused, IsSlotGiven, AreDistinct, UsedSlots, width_of, slot_width, IsColumnIn, IsBlockColumn, IsPlaceIn, IsSlotPlace}
+use Rattle.numbered_sets.specs.Slots.{IsNumberOfSlot, IsUnused, IsSlotGiven, AreDistinct, UsedSlots, width_of, slot_width, IsColumnIn, IsBlockColumn, IsPlaceIn, IsSlotPlace}
 use Rattle.numbered_sets.proofs.{PoolLaws.{numbered_with, seen_already}, ViewLaws.{false_unless}, TaskSlots.{row_known, some_block, in_other_block, row_stays}, SourceSlots.{task_slot, source_moved, load_stays, source_stays}}
 
 abbrev pair_in : Option (BlockNo × ℕ) → BlockNo × ℕ
@@ -203,25 +203,25 @@ values_stay d loads after slots grown known = ap (λ (all : List Load). slot_val
 
 -- ---- values by number
 
-pub value_numbered : (d : Domain) (loads : List Load) (slots : List ℕ) (s n : ℕ) (v : PartValue) → IsPlaceOf slots s n → value_in d loads s ≡ v → IsNumberOf (slot_values d loads slots) v n
+pub value_numbered : (d : Domain) (loads : List Load) (slots : List ℕ) (s n : ℕ) (v : PartValue) → IsNumberOfSlot slots s n → value_in d loads s ≡ v → IsNumberOf (slot_values d loads slots) v n
 value_numbered d loads slots s n v place is = record {
   known = omega (arith, place.known, length-map slots (value_in d loads));
   is = λ w. get_or-map (value_in d loads) slots n 0 w place.known ∙ ap (value_in d loads) (place.is 0) ∙ is;
 }
 
-pub some_number : (d : Domain) (loads : List Load) (slots : List ℕ) (s : ℕ) (v : PartValue) (found : Option ℕ) → IfSome found (IsPlaceOf slots s) → value_in d loads s ≡ v → IfSome found (IsNumberOf (slot_values d loads slots) v)
+pub some_number : (d : Domain) (loads : List Load) (slots : List ℕ) (s : ℕ) (v : PartValue) (found : Option ℕ) → IfSome found (IsNumberOfSlot slots s) → value_in d loads s ≡ v → IfSome found (IsNumberOf (slot_values d loads slots) v)
 some_number d loads slots s v None at is = tt
 some_number d loads slots s v (Some n) at is = value_numbered d loads slots s n v at is
 
 -- the number of what becomes of a value, by its slot
-pub moved_number : (d : Domain) (loads : List Load) (slots : List ℕ) (becomes : PartValue → PartValue) (s t n : ℕ) (found : Option ℕ) → IsPlaceOf slots s n → value_in d loads t ≡ becomes (value_in d loads s) → IfSome found (IsPlaceOf slots t)
+pub moved_number : (d : Domain) (loads : List Load) (slots : List ℕ) (becomes : PartValue → PartValue) (s t n : ℕ) (found : Option ℕ) → IsNumberOfSlot slots s n → value_in d loads t ≡ becomes (value_in d loads s) → IfSome found (IsNumberOfSlot slots t)
     → IfSome found (λ m. (v : PartValue) → IsNumberOf (slot_values d loads slots) v n → IsNumberOf (slot_values d loads slots) (becomes v) m)
 moved_number d loads slots becomes s t n None at is there = tt
 moved_number d loads slots becomes s t n (Some m) at is there = λ v number.
     let same : value_in d loads s ≡ v = sym ((value_numbered d loads slots s n (value_in d loads s) at refl).is v) ∙ number.is v in
     value_numbered d loads slots t m (becomes v) there (is ∙ ap becomes same)
 
-pub value_beside : (d : Domain) (loads : List Load) (slots : List ℕ) (s t n m : ℕ) (b : BlockNo) → IsPlaceOf slots s n → IsPlaceOf slots t m → value_in d loads t ≡ updated (Block b) (value_in d loads s)
+pub value_beside : (d : Domain) (loads : List Load) (slots : List ℕ) (s t n m : ℕ) (b : BlockNo) → IsNumberOfSlot slots s n → IsNumberOfSlot slots t m → value_in d loads t ≡ updated (Block b) (value_in d loads s)
     → (v : PartValue) → IsNumberOf (slot_values d loads slots) v n → (c : BlockNo) × IsNumberOf (slot_values d loads slots) (updated (Block c) v) m
 value_beside d loads slots s t n m b at there is v number = (b, moved_number d loads slots (updated (Block b)) s t n (Some m) at is there v number)
 
@@ -285,13 +285,13 @@ module _ (d : Domain) (loads after : List Load) (slots more : UsedSlots) (s : �
 
 -- a slot with a number stays, and another comes in last
 module _ (d : Domain) (loads after : List Load) (slots more : UsedSlots) (s n : ℕ) (v : PartValue) (grown : AreMoreLoads loads after) (h : AreSeen d loads slots) (slot : IsSlotOf d after v s) (given : IsSlotGiven slots.used s more.used)
-    (place : IsPlaceOf more.used s n) where
+    (place : IsNumberOfSlot more.used s n) where
   pub given_values : slot_values d after more.used ≡ with_value (slot_values d loads slots.used) v
   given_values = elim given [
     | inl same ↦
         (let stay = values_stay d loads after slots.used grown h.known in
         let vs = slot_values d loads slots.used in
-        let there : IsNumberOf vs v n = subst (λ (ws : List PartValue). IsNumberOf ws v n) stay (value_numbered d after slots.used s n v (subst (λ (us : List ℕ). IsPlaceOf us s n) same place) slot.is) in
+        let there : IsNumberOf vs v n = subst (λ (ws : List PartValue). IsNumberOf ws v n) stay (value_numbered d after slots.used s n v (subst (λ (us : List ℕ). IsNumberOfSlot us s n) same place) slot.is) in
         ap (slot_values d after) same ∙ stay ∙ sym (ap (λ (x : Values). x.values) (seen_already (record { domain = d; values = vs }) v n there)))
     | inr new ↦ values_pushed d loads after slots more s v grown h slot new.0 new.1
   ]

@@ -8,7 +8,7 @@ use Rattle.flow_model.specs.{declared.change.Update.{Update}, Values.{with_top, 
 use Rattle.flow_model.specs.declared.change.Update.TheVariants as update
 use Rattle.numbered_sets.specs.declared.{loads.Load.{Load}, load_updates.LoadsAfter.{LoadsAfter}}
 use Rattle.numbered_sets.specs.declared.slot_values.{SlotPlace.{SlotPlace}, Standing.{Standing, TheVariants.{At, Own}}}
-use Rattle.numbered_sets.specs.Slots.{no_load, none, blocks_of, IsPlaceOf, IsSlotPlace, UsedSlots}
+use Rattle.numbered_sets.specs.Slots.{no_load, none, blocks_of, IsNumberOfSlot, IsSlotPlace, UsedSlots}
 
 -- what an update makes of a load
 abbrev pub load_after : Update → Load → Load
@@ -99,8 +99,8 @@ pub record IsLoadIn (d : Domain) (slot k : ℕ) : Type 0 where
 pub record IsFoundWith (d : Domain) (slots : UsedSlots) (numbers : List ℕ) (x : Standing) (n m : ℕ) : Type 0 where
   pub slot : ℕ
   pub place : SlotPlace
-  pub its : IsPlaceOf slots.used slot n
+  pub its : IsNumberOfSlot slots.used slot n
   pub at : IsSlotPlace d slot place
   pub live : place.row ≢ 0
   pub load : slice_index_or numbers (place.row - 1) none ≢ none
-  pub there : IsPlaceOf slots.used (1 + (slice_index_or numbers (place.row - 1) none + 1) * slots.width + offset_after x place) m
+  pub there : IsNumberOfSlot slots.used (1 + (slice_index_or numbers (place.row - 1) none + 1) * slots.width + offset_after x place) m

@@ -12,6 +12,6 @@ abbrev pub all_numbers : List Numbers → ℕ
 all_numbers sets = sum_by number_count sets
 
 -- The join of the sets of two lists: each has the numbers of both.
-pub record AreJoined (sets other after : List Numbers) : Type 0 where
+pub record AreJoinedSets (sets other after : List Numbers) : Type 0 where
   pub as_many : length after ≡ length sets
   pub each : (c : ℕ) → set_of after c ≡ joined_numbers (set_of sets c) (set_of other c)

@@ -118,7 +118,7 @@ pub record AreMoreLoads (loads after : List Load) : Type 0 where
   pub is : after ≡ loads ++ more
 
 -- the slot with this number
-pub record IsPlaceOf (used : List ℕ) (s n : ℕ) : Type 0 where
+pub record IsNumberOfSlot (used : List ℕ) (s n : ℕ) : Type 0 where
   pub known : n < length used
   pub is : (d : ℕ) → slice_index_or used n d ≡ s
 
@@ -149,7 +149,7 @@ pub record AreNumbersBySlot (width : ℕ) (used : List ℕ) (columns : List (Lis
   pub wide : 0 < width
   pub few : length used ≤ none
   pub each : (n d : ℕ) → n < length used → number_in columns (slice_index_or used n d % width) (slice_index_or used n d / width) ≡ n
-  pub only : (column row : ℕ) → column < width → number_in columns column row ≢ none → IsPlaceOf used (row * width + column) (number_in columns column row)
+  pub only : (column row : ℕ) → column < width → number_in columns column row ≢ none → IsNumberOfSlot used (row * width + column) (number_in columns column row)
 
 pub record AreSameNumbers (columns after : List (List ℕ)) : Type 0 where
   pub each : (column row : ℕ) → number_in after column row ≡ number_in columns column row

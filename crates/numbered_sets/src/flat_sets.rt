@@ -36,7 +36,7 @@ impl Model for NumberedSets {
 impl NumberedSets {
     ghost use Rattle.std.specs.Prelude.{ℕ, false, IsTrue, ◌≡◌, ◌<◌, ◌≤◌, ◌+◌, ◌^◌, ◌==◌, not, length, map, slice_set, IfOk, OnOk, OnErr, EachIndex, SomeIndex};
     ghost use Rattle.std.specs.Bool.{OnTrue, OnFalse};
-    ghost use Rattle.numbered_sets.specs.{Numbers.{numbers, has_number, with_number, kept_numbers, other_numbers, number_count, meets}, SetLists.{set_of, all_numbers, AreJoined}};
+    ghost use Rattle.numbered_sets.specs.{Numbers.{numbers, has_number, with_number, kept_numbers, other_numbers, number_count, meets}, SetLists.{set_of, all_numbers, AreJoinedSets}};
 
     /// The sets without a number, for a component of each domain.
     pub fn new(alloc: Global, domains: &[Domain]) -> Result<NumberedSets, Memory>
@@ -285,7 +285,7 @@ impl NumberedSets {
     pub fn join_into(&mut self, other: &NumberedSets) -> Result<u64, Memory>
         requires as_many { length self.old ≡ length other.now }
         requires few { all_numbers other.now < 2 ^ 64 }
-        ensures sets { OnOk result (AreJoined self.old other.now self.new) }
+        ensures sets { OnOk result (AreJoinedSets self.old other.now self.new) }
         ensures count { IfOk result (λ n. all_numbers self.new ≡ all_numbers self.old + n) }
         ensures err { OnErr result (self.new ≡ self.old) }
     {

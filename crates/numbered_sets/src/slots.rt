@@ -43,7 +43,7 @@ impl Clone for Slots {
 
 impl Slots {
     ghost use Rattle.std.specs.Prelude.{◌≡◌, ◌<◌, ◌+◌, ◌*◌, ◌^◌, [], ◌∷◌, ◌++◌, length, IfOk, OnOk, OnErr, IfSome, IfNone};
-    ghost use Rattle.numbered_sets.specs.Slots.{used_slots, IsUnused, IsPlaceOf, IsSlotGiven};
+    ghost use Rattle.numbered_sets.specs.Slots.{used_slots, IsUnused, IsNumberOfSlot, IsSlotGiven};
 
     /// No slot yet, of so many columns.
     pub fn new(alloc: Global, width: u32) -> Slots
@@ -67,7 +67,7 @@ impl Slots {
     /// The slot with a number.
     pub fn at(&self, number: usize) -> usize
         requires { number < length self.now.used }
-        ensures slot { IsPlaceOf self.now.used result number }
+        ensures slot { IsNumberOfSlot self.now.used result number }
         ensures small { result < 2 ^ 32 }
     {
         self.used[number] as usize
@@ -75,7 +75,7 @@ impl Slots {
 
     /// The number of a slot, if it has one.
     pub fn find(&self, slot: usize) -> Option<usize>
-        ensures number { IfSome result (IsPlaceOf self.now.used slot) }
+        ensures number { IfSome result (IsNumberOfSlot self.now.used slot) }
         ensures none { IfNone result (IsUnused self.now.used slot) }
     {
         let width = self.width as usize;
@@ -85,7 +85,7 @@ impl Slots {
     /// The number of the slot in a column and a row, if it has one.
     pub fn find_in(&self, column: usize, row: usize) -> Option<usize>
         requires { column < self.now.width }
-        ensures number { IfSome result (IsPlaceOf self.now.used (row * self.now.width + column)) }
+        ensures number { IfSome result (IsNumberOfSlot self.now.used (row * self.now.width + column)) }
         ensures none { IfNone result (IsUnused self.now.used (row * self.now.width + column)) }
     {
         if column >= self.columns.len() {
@@ -101,7 +101,7 @@ impl Slots {
     /// The number of the slot at an offset in a row behind the first slot, if it has one.
     pub fn find_behind(&self, row: usize, offset: usize) -> Option<usize>
         requires { row ≤ 2 ^ 32 }
-        ensures { IfSome result (IsPlaceOf self.now.used (1 + row * self.now.width + offset)) }
+        ensures { IfSome result (IsNumberOfSlot self.now.used (1 + row * self.now.width + offset)) }
     {
         let width = self.width as usize;
         if offset >= width {
@@ -118,7 +118,7 @@ impl Slots {
     pub fn number(&mut self, slot: usize) -> Result<usize, Memory>
         ensures width { self.new.width ≡ self.old.width }
         ensures slots { OnOk result (IsSlotGiven self.old.used slot self.new.used) }
-        ensures number { IfOk result (IsPlaceOf self.new.used slot) }
+        ensures number { IfOk result (IsNumberOfSlot self.new.used slot) }
         ensures err { OnErr result (self.new ≡ self.old) }
     {
         if let Some(number) = self.find(slot) {

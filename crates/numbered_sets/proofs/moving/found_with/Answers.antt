@@ -1,5 +1,5 @@
 use Rattle.std.proofs.{Common.{◌≡◌, ℕ, ◌+◌, ◌-◌, ◌*◌, get_or, ap₂, subst, ◌∙◌}, lemmas.Option.{IfSome_then}}
-use Rattle.numbered_sets.specs.{Slots.{none, IsPlaceOf}, LoadUpdates.{offset_after}}
+use Rattle.numbered_sets.specs.{Slots.{none, IsNumberOfSlot}, LoadUpdates.{offset_after}}
 use Rattle.numbered_sets.proofs.moving.found_with.Goals as goal
 
 pub returns : goal.returns
@@ -16,5 +16,5 @@ returns c =
       at = c.in_ok-place.ensures;
       live = c.if-place-eq0.false;
       load = λ e. c.if-load.false (c.at-load.ensures ∙ e);
-      there = subst (λ (s : ℕ). IsPlaceOf slots.used s m) same there;
+      there = subst (λ (s : ℕ). IsNumberOfSlot slots.used s m) same there;
     })

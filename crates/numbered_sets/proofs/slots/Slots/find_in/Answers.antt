@@ -1,5 +1,5 @@
 use Rattle.std.proofs.{Common.{ℕ, List, [], ◌≡◌, ◌+◌, ◌*◌, ◌<◌, get_or, sym, ap, subst, ◌∙◌, arith}, lemmas.List.{get_or_past}}
-use Rattle.numbered_sets.specs.Slots.{none, number_in, UsedSlots, IsPlaceOf, IsUnused}
+use Rattle.numbered_sets.specs.Slots.{none, number_in, UsedSlots, IsNumberOfSlot, IsUnused}
 use Rattle.numbered_sets.proofs.ColumnLaws.{unused_at}
 use Rattle.numbered_sets.proofs.slots.Slots.find_in.Goals as goal
 
@@ -25,4 +25,4 @@ returns-clause-number c =
     let known : c.args.column < here.width = subst (λ (x : UsedSlots). c.args.column < x.width) (sym c.self.view_is) c.requires in
     let there : number_in here.columns c.args.column c.args.row ≡ c.at-number.result = ap (λ (numbers : List ℕ). get_or numbers c.args.row none) (c.at.ensures.item []) ∙ sym c.at-number.ensures in
     let place = c.self.invariant.only c.args.column c.args.row known (λ e. c.if-number.false (sym there ∙ e)) in
-    subst (λ (x : UsedSlots). IsPlaceOf x.used (c.args.row * x.width + c.args.column) c.at-number.result) c.self.view_is (subst (IsPlaceOf here.used.items (c.args.row * here.width + c.args.column)) there place)
+    subst (λ (x : UsedSlots). IsNumberOfSlot x.used (c.args.row * x.width + c.args.column) c.at-number.result) c.self.view_is (subst (IsNumberOfSlot here.used.items (c.args.row * here.width + c.args.column)) there place)
