@@ -9,7 +9,7 @@ use Rattle.abstract_state.proofs.AllowedLaws.{well_point}
 use Rattle.flow_model.specs.Effects.{IsAt}
 use Rattle.flow_exits.specs.{declared.exit.Exit.{Exit}, Exits.{IsBy, CoverSteps, AreExact}}
 use Rattle.flow_exits.proofs.ExactExits.{some_step}
-use Rattle.global_cfg.specs.Targets.{IsEndOf, AreEndsPut, LeadsTo, AreTargets}
+use Rattle.global_cfg.specs.Targets.{HasExitTo, AreEndsPut, LeadsTo, AreTargets}
 use Rattle.global_cfg.proofs.LeadingOn.{next_well, target_point, moves_on, leads_where_it_moves, stays_silent}
 
 module _ (app : App) (p : Point) (entry : PlainEntry) where
@@ -19,7 +19,7 @@ module _ (app : App) (p : Point) (entry : PlainEntry) where
 
   module _ (exits : List Exit) (exact : AreExact app p entry exits) where
     -- an exit by which control flow leads on leads to its target
-    led_there : (q : Point) → IsEndOf p exits q → LeadsTo app p entry q
+    led_there : (q : Point) → HasExitTo p exits q → LeadsTo app p entry q
     led_there q x =
         let s = some_step app p entry x.exit (exact x.exit x.listed) in
         record {

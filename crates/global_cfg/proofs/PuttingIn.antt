@@ -11,7 +11,7 @@ use Rattle.point_exits.specs.declared.group.{NumberEnd.{NumberEnd}, ExitGroup.{E
 use Rattle.point_exits.specs.declared.group.Ends.TheVariants as ends
 use Rattle.point_exits.specs.Groups.{with_end, exit_at, exits_by}
 use Rattle.table_rows.specs.Order.{AscendBy}
-use Rattle.global_cfg.specs.{PointOrder.{HasNumber, IsPut}, Targets.{leads, end_target, IsEndOf, AreAllPut, AreEndsPut, IsTargetAfter, ArePutAfter}}
+use Rattle.global_cfg.specs.{PointOrder.{HasNumber, IsPut}, Targets.{leads, end_target, HasExitTo, AreAllPut, AreEndsPut, IsTargetAfter, ArePutAfter}}
 
 -- none is to be put in, or those that are have their numbers there
 pub all_there : (Has : Point → Type 0) (points : List Point) → AscendBy point_number points → ((q : Point) → Has q → HasNumber points (point_number q)) → AreAllPut Has points points
@@ -88,11 +88,11 @@ module _ (p : Point) (decided : Option Decision) where
 
 module _ (p : Point) where
   pub no_exits : (points : List Point) → AscendBy point_number points → AreEndsPut p [] points points
-  no_exits points order = all_there (IsEndOf p []) points order (λ q h. absurd (contained_among [] h.exit h.listed))
+  no_exits points order = all_there (HasExitTo p []) points order (λ q h. absurd (contained_among [] h.exit h.listed))
 
   pub exits_then : (first next : List Exit) (a b c : List Point) → AreEndsPut p first a b → AreEndsPut p next b c → AreEndsPut p (first ++ next) a c
   exits_then first next a b c x y =
-      put_then (IsEndOf p first) (IsEndOf p next) (IsEndOf p (first ++ next)) a b c (λ q h. record { exit = h.exit; listed = Contains-append_left first next h.exit h.listed; on = h.on; ends = h.ends })
+      put_then (HasExitTo p first) (HasExitTo p next) (HasExitTo p (first ++ next)) a b c (λ q h. record { exit = h.exit; listed = Contains-append_left first next h.exit h.listed; on = h.on; ends = h.ends })
       (λ q h. record { exit = h.exit; listed = Contains-append_right first next h.exit h.listed; on = h.on; ends = h.ends })
       (λ q h. elim (Contains-append_cases first next h.exit h.listed) [
         | inl old ↦ inl (record { exit = h.exit; listed = old; on = h.on; ends = h.ends })
@@ -102,7 +102,7 @@ module _ (p : Point) where
 
   -- exits with one decision, and their targets
   module _ {X : Type 0} (exit : X → Exit) (target : X → Point) (decided : Option Decision) (ends_at : (x : X) → (exit x).target ≡ target x) (decides : (x : X) → (exit x).decision ≡ decided) (xs : List X) where
-    by_targets : (q : Point) → IsTargetAfter p decided (map target xs) q → IsEndOf p (map exit xs) q
+    by_targets : (q : Point) → IsTargetAfter p decided (map target xs) q → HasExitTo p (map exit xs) q
     by_targets q h =
         let x = map_among target q xs (contained_among (map target xs) q h.listed) in
         let ends : q ≡ (exit x.0).target = x.2 ∙ sym (ends_at x.0) in
@@ -113,7 +113,7 @@ module _ (p : Point) where
           ends = ends;
         }
 
-    to_targets : (q : Point) → IsEndOf p (map exit xs) q → IsTargetAfter p decided (map target xs) q
+    to_targets : (q : Point) → HasExitTo p (map exit xs) q → IsTargetAfter p decided (map target xs) q
     to_targets q h =
         let x = map_among exit h.exit xs (contained_among (map exit xs) h.exit h.listed) in
         let ends : q ≡ target x.0 = h.ends ∙ ap (λ (y : Exit). y.target) x.2 ∙ ends_at x.0 in
@@ -123,7 +123,7 @@ module _ (p : Point) where
         }
 
     ends_by_targets : (a b : List Point) → ArePutAfter p decided (map target xs) a b → AreEndsPut p (map exit xs) a b
-    ends_by_targets a b put = put_alike (IsTargetAfter p decided (map target xs)) (IsEndOf p (map exit xs)) a b by_targets to_targets put
+    ends_by_targets a b put = put_alike (IsTargetAfter p decided (map target xs)) (HasExitTo p (map exit xs)) a b by_targets to_targets put
 
   pub put_at_points : (pool : List Values) (g : ExitGroup) (points : List Point) (a b : List Point) → ArePutAfter p g.decision points a b → AreEndsPut p (exits_by pool g (ends.At points)) a b
   put_at_points pool g points a b put =

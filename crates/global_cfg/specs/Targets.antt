@@ -23,7 +23,7 @@ abbrev pub leads : Point → Option Decision → Point → Bool
 leads target decision p = not (point_number target == point_number p) || dispatches decision
 
 -- an exit of these by which control flow leads on from p to this point
-pub record IsEndOf (p : Point) (exits : List Exit) (q : Point) : Type 0 where
+pub record HasExitTo (p : Point) (exits : List Exit) (q : Point) : Type 0 where
   pub exit : Exit
   pub listed : Contains exits exit
   pub on : leads exit.target exit.decision p ≡ true
@@ -38,7 +38,7 @@ pub record AreAllPut (Has : Point → Type 0) (before after : List Point) : Type
 
 -- The targets are put in of the exits by which control flow leads on from p.
 abbrev pub AreEndsPut : Point → List Exit → List Point → List Point → Type 0
-AreEndsPut p exits before after = AreAllPut (IsEndOf p exits) before after
+AreEndsPut p exits before after = AreAllPut (HasExitTo p exits) before after
 
 -- one of these targets, to which control flow leads on from p after this decision
 pub record IsTargetAfter (p : Point) (decided : Option Decision) (targets : List Point) (q : Point) : Type 0 where
