@@ -13,7 +13,7 @@ use Rattle.table_rows.specs.Rows.{number_of, AreRowsFrom, AreExitsOf}
 use Rattle.table_rows.proofs.TableRows.{same_row_then, same_table, rows_grown, listed_plain, in_order, plain_proper}
 use Rattle.flow_check.specs.{declared.{found.Findings.{Findings}}, Staying.{AreAllIn, IsSomeGroupOut}}
 use Rattle.flow_check.specs.declared.flow.Flow.TheVariants as flow
-use Rattle.flow_check.specs.{Outcomes.{AreFound}, Verdicts.{Leaves}, Flows.{StaysAt, IsFlow}}
+use Rattle.flow_check.specs.{Outcomes.{AreFound}, Verdicts.{Leaves}, Flows.{StaysFrom, IsFlow}}
 use Rattle.flow_check.proofs.StayLaws.{row_stays, row_leaves}
 
 -- The steps from the first rows stay in the table, and this is found over them.
@@ -21,7 +21,7 @@ pub record HasPassed (app : App) (first pool : List Values) (rows : List Numbere
   pub longer : IsLonger first pool
   pub levels : AreLevels app pool its
   pub found : AreFound app (take k (plain_rows first rows)) sites
-  pub stay : (i : ℕ) (d : NumberedRow) → i < k → StaysAt app (sets_of (plain_table first rows)) (get_or rows i d).point
+  pub stay : (i : ℕ) (d : NumberedRow) → i < k → StaysFrom app (sets_of (plain_table first rows)) (get_or rows i d).point
 
 module _ (app : App) (first : List Values) (rows : List NumberedRow) (from : AreRowsFrom app first rows) where
   abbrev table : PlainTable
@@ -68,9 +68,9 @@ module _ (app : App) (first : List Values) (rows : List NumberedRow) (from : Are
       its_exits : AreExitsOf app (plain_row after row) (all_exits after groups)
       its_exits = subst (λ (r : TableRow). AreExitsOf app r (all_exits after groups)) (sym (same_row_then pool after rows on there.known row listed)) of
 
-      pub stays_there : AreAllIn rows groups → StaysAt app (sets_of table) row.point
+      pub stays_there : AreAllIn rows groups → StaysFrom app (sets_of table) row.point
       stays_there all =
-          subst (λ (t : PlainTable). StaysAt app (sets_of t) row.point) (same_table first after rows later from.known)
+          subst (λ (t : PlainTable). StaysFrom app (sets_of t) row.point) (same_table first after rows later from.known)
           (row_stays app after rows (rows_grown app first after rows later from) row listed groups its_exits all)
 
       pub leaves_there : All AreValues after → AreKnownGroups after groups → IsSomeGroupOut rows groups → Leaves app (sets_of table) row.point
@@ -79,7 +79,7 @@ module _ (app : App) (first : List Values) (rows : List NumberedRow) (from : Are
           (row_leaves app after rows (rows_grown app first after rows later from) row listed groups its_exits values known out)
 
     -- a step from it leaves the table, and none from a row before
-    pub flow_leaves : ((i : ℕ) (d : NumberedRow) → i < k → StaysAt app (sets_of table) (get_or rows i d).point) → Leaves app (sets_of table) row.point → IsFlow app table (flow.Leaves row.point)
+    pub flow_leaves : ((i : ℕ) (d : NumberedRow) → i < k → StaysFrom app (sets_of table) (get_or rows i d).point) → Leaves app (sets_of table) row.point → IsFlow app table (flow.Leaves row.point)
     flow_leaves stay leaves = (
       λ p less l.
           (let r = row_of p (subst (λ (q : Point). IsTrue ((sets_of table).entry q)) l.at l.inside.entry) in
@@ -103,7 +103,7 @@ module _ (app : App) (first : List Values) (rows : List NumberedRow) (from : Are
             get_same d = get_or_default rows k d row lt ∙ sym is
 
   -- all rows are passed
-  pub flow_stays : (k : ℕ) (sites : List (Option Findings)) → length rows ≤ k → ((i : ℕ) (d : NumberedRow) → i < k → StaysAt app (sets_of table) (get_or rows i d).point) → AreFound app (take k (plain_rows first rows)) sites
+  pub flow_stays : (k : ℕ) (sites : List (Option Findings)) → length rows ≤ k → ((i : ℕ) (d : NumberedRow) → i < k → StaysFrom app (sets_of table) (get_or rows i d).point) → AreFound app (take k (plain_rows first rows)) sites
       → IsFlow app table (flow.Stays sites)
   flow_stays k sites whole stay found = (
     λ p s e i at.

@@ -9,7 +9,7 @@ use Rattle.numbered_sets.specs.{declared.table.NumberedRow.{NumberedRow}, Pools.
 use Rattle.point_exits.specs.{declared.group.{NumberEnd.{NumberEnd}, Ends.{Ends}, ExitGroup.{ExitGroup}}, Groups.{with_end, exit_at, exits_by, exits_of, all_exits, AreKnownEnds}}
 use Rattle.point_exits.specs.declared.group.Ends.TheVariants as ends
 use Rattle.point_exits.proofs.GrowingPools.{end_known}
-use Rattle.flow_check.specs.Staying.{NumberedEnd, end_at, ends_by, IsIn, IsOut, AreIn, IsSomeOut, HasSetFor}
+use Rattle.flow_check.specs.Staying.{NumberedEnd, end_at, ends_by, IsIn, IsOut, AreEndsIn, IsSomeOut, HasSetFor}
 
 -- an exit of the group, by its end
 abbrev pub exit_by : List Values → ExitGroup → NumberedEnd → Exit
@@ -69,7 +69,7 @@ module _ (pool : List Values) (groups : List ExitGroup) where
 -- ---- whether ends are in rows, one by one
 
 module _ {X : Type 0} (rows : List NumberedRow) (f : X → NumberedEnd) (xs : List X) where
-  pub each_in : ((k : ℕ) (d : X) → k < length xs → IsIn rows (f (get_or xs k d))) → AreIn rows (map f xs)
+  pub each_in : ((k : ℕ) (d : X) → k < length xs → IsIn rows (f (get_or xs k d))) → AreEndsIn rows (map f xs)
   each_in h x m =
       let at = map_among f x xs (contained_among (map f xs) x m) in
       let place = among_contained xs at.0 at.1 in

@@ -18,7 +18,7 @@ use Rattle.numbered_sets.proofs.{KnownNumbers.{order_onward, one_number}, ViewLa
 use Rattle.point_exits.specs.{declared.group.ExitGroup.{ExitGroup}, Groups.{all_exits, AreKnownGroups}, Rows.{IsRowIn}}
 use Rattle.point_exits.proofs.{ProperRows.{set_known}, NumberLaws.{member_number, number_member}}
 use Rattle.table_rows.specs.Rows.{AreRowsFrom, AreExitsOf}
-use Rattle.flow_check.specs.{Staying.{IsRowOut, exit_row, NumberedEnd, IsIn, IsOut, AreAllIn, IsSomeGroupOut}, Verdicts.{Leaves}, Flows.{StaysAt}}
+use Rattle.flow_check.specs.{Staying.{IsRowOut, exit_row, NumberedEnd, IsIn, IsOut, AreAllIn, IsSomeGroupOut}, Verdicts.{Leaves}, Flows.{StaysFrom}}
 use Rattle.table_rows.proofs.TableRows.{in_row, row_in, plain_listed, listed_plain, pool_is, row_point}
 use Rattle.flow_check.proofs.GroupEnds.{HasEnd, exit_end, end_exit, exit_by, ends_known}
 
@@ -112,7 +112,7 @@ module _ (app : App) (table : PlainTable) (written : IsWritten app table) (row :
     by_mark s e (Did o x) is at i = by_shown s e (λ quiet. let wrong : Did o x ≡ Silent = sym is ∙ quiet in absurd cc) at
 
     -- where all exits are in the table, no step leaves it
-    pub stays : StaysAt app (sets_of table) row.point
+    pub stays : StaysFrom app (sets_of table) row.point
     stays s e i at = by_mark s e (shows app s e) refl (in_row app table written row among s i at) i
 
   -- where one isn't, some step does
@@ -156,7 +156,7 @@ module _ (app : App) (pool : List Values) (rows : List NumberedRow) (from : AreR
       let here = end_in app pool rows from h.end (subst (IsPoint app) (ap (λ (y : Exit). y.target) h.is) point) (all h.group h.among h.end h.listed) in
       subst (λ (y : Exit). IsRowIn (sets_of its_table) (exit_row y)) (sym h.is) here
 
-  pub row_stays : AreAllIn rows groups → StaysAt app (sets_of its_table) row.point
+  pub row_stays : AreAllIn rows groups → StaysFrom app (sets_of its_table) row.point
   row_stays all =
       stays app its_table from.written (plain_row pool row) among_rows (all_exits pool groups) of
       (λ x m. exit_in all x (exit_end pool groups x m) (target_point app its_table from.written (plain_row pool row) among_rows (all_exits pool groups) of x m))

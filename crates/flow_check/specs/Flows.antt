@@ -7,10 +7,10 @@ use Rattle.flow_check.specs.{declared.flow.Flow.{Flow}, Outcomes.{AreFound}, Ver
 use Rattle.flow_check.specs.declared.flow.Flow.TheVariants as flow
 
 -- each step from a state in the table at the point leads to one in it
-abbrev pub StaysAt : App → Sets → Point → Type 0
-StaysAt app table p = (s : State) (e : Event) → In app table s → point_of s ≡ p → In app table (step app s e).state
+abbrev pub StaysFrom : App → Sets → Point → Type 0
+StaysFrom app table p = (s : State) (e : Event) → In app table s → point_of s ≡ p → In app table (step app s e).state
 
 -- One from the point leaves the table, and none from a point before; or each stays in it, and this is found at each block.
 abbrev pub IsFlow : App → PlainTable → Flow → Type 0
 IsFlow app table (flow.Leaves p) = StaysIn app (sets_of table) (point_number p) × Leaves app (sets_of table) p
-IsFlow app table (flow.Stays sites) = ((p : Point) → StaysAt app (sets_of table) p) × AreFound app table.rows sites
+IsFlow app table (flow.Stays sites) = ((p : Point) → StaysFrom app (sets_of table) p) × AreFound app table.rows sites

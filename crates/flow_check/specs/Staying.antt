@@ -67,8 +67,8 @@ pub record LacksNumber (rows : List NumberedRow) (x : NumberedEnd) : Type 0 wher
 abbrev pub IsOut : List NumberedRow → NumberedEnd → Type 0
 IsOut rows x = HasNoRowWith rows (point_number x.target) ⊎ LacksNumber rows x
 
-abbrev pub AreIn : List NumberedRow → List NumberedEnd → Type 0
-AreIn rows xs = (x : NumberedEnd) → Contains xs x → IsIn rows x
+abbrev pub AreEndsIn : List NumberedRow → List NumberedEnd → Type 0
+AreEndsIn rows xs = (x : NumberedEnd) → Contains xs x → IsIn rows x
 
 pub record IsSomeOut (rows : List NumberedRow) (xs : List NumberedEnd) : Type 0 where
   pub end : NumberedEnd
@@ -77,7 +77,7 @@ pub record IsSomeOut (rows : List NumberedRow) (xs : List NumberedEnd) : Type 0 
 
 -- so it is with each group
 abbrev pub AreAllIn : List NumberedRow → List ExitGroup → Type 0
-AreAllIn rows groups = (g : ExitGroup) → Contains groups g → AreIn rows (ends_by g.entry g.ends)
+AreAllIn rows groups = (g : ExitGroup) → Contains groups g → AreEndsIn rows (ends_by g.entry g.ends)
 
 pub record IsSomeGroupOut (rows : List NumberedRow) (groups : List ExitGroup) : Type 0 where
   pub group : ExitGroup

@@ -4,7 +4,7 @@ ghost use Rattle.point_exits.specs.declared.group.ExitGroup.{ExitGroup};
 ghost use Rattle.point_exits.specs.declared.group.Ends.TheVariants as ends_of;
 ghost use Rattle.point_exits.specs.Groups.{with_end};
 ghost use Rattle.table_rows.specs.{Order.{AscendBy}, Rows.{number_of}};
-ghost use Rattle.flow_check.specs.Staying.{IsIn, IsOut, AreIn, IsSomeOut, AreAllIn, IsSomeGroupOut, HasSetOf, HasSetFor, end_at, ends_by};
+ghost use Rattle.flow_check.specs.Staying.{IsIn, IsOut, AreEndsIn, IsSomeOut, AreAllIn, IsSomeGroupOut, HasSetOf, HasSetFor, end_at, ends_by};
 
 use crate::rows::row_at;
 use abstract_state::Point;
@@ -36,7 +36,7 @@ pub(crate) fn all_stay(
 fn stays(alloc: Global, group: &ExitGroup, rows: &[NumberedRow]) -> Result<bool, Memory>
     requires set { HasSetFor group.now.entry group.now.ends }
     requires order { AscendBy number_of rows.now }
-    ensures stay { IfOk result (λ stay. OnTrue stay (AreIn rows.now (ends_by group.now.entry group.now.ends))) }
+    ensures stay { IfOk result (λ stay. OnTrue stay (AreEndsIn rows.now (ends_by group.now.entry group.now.ends))) }
     ensures out { IfOk result (λ stay. OnFalse stay (IsSomeOut rows.now (ends_by group.now.entry group.now.ends))) }
 {
     match &group.ends {
@@ -51,7 +51,7 @@ fn stays(alloc: Global, group: &ExitGroup, rows: &[NumberedRow]) -> Result<bool,
 // at each of these points, with all numbers
 fn all_at(points: &[Point], entry: &NumberedEntry, rows: &[NumberedRow]) -> bool
     requires { AscendBy number_of rows.now }
-    ensures stay { OnTrue result (AreIn rows.now (ends_by entry.now (ends_of.At points.now))) }
+    ensures stay { OnTrue result (AreEndsIn rows.now (ends_by entry.now (ends_of.At points.now))) }
     ensures out { OnFalse result (IsSomeOut rows.now (ends_by entry.now (ends_of.At points.now))) }
 {
     for point in points {
@@ -71,7 +71,7 @@ fn all_with(
 ) -> Result<bool, Memory>
     requires set { HasSetFor entry (ends_of.With ends.now) }
     requires order { AscendBy number_of rows.now }
-    ensures stay { IfOk result (λ stay. OnTrue stay (AreIn rows.now (ends_by entry (ends_of.With ends.now)))) }
+    ensures stay { IfOk result (λ stay. OnTrue stay (AreEndsIn rows.now (ends_by entry (ends_of.With ends.now)))) }
     ensures out { IfOk result (λ stay. OnFalse stay (IsSomeOut rows.now (ends_by entry (ends_of.With ends.now)))) }
 {
     let mut held = entry;

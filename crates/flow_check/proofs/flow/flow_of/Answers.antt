@@ -6,7 +6,7 @@ use Rattle.numbered_sets.specs.{declared.table.NumberedRow.{NumberedRow}, PlainT
 use Rattle.numbered_sets.proofs.{NumberingLaws.{longer_itself, longer_onward}, WrittenRows.{pool_has_tasks}}
 use Rattle.point_exits.specs.{declared.group.ExitGroup.{ExitGroup}, Groups.{all_exits}}
 use Rattle.table_rows.{specs.Rows.{AreExitsOf}, proofs.TableRows.{in_order}}
-use Rattle.flow_check.specs.{Staying.{AreAllIn, IsSomeGroupOut}, Outcomes.{AreFound}, Flows.{StaysAt}}
+use Rattle.flow_check.specs.{Staying.{AreAllIn, IsSomeGroupOut}, Outcomes.{AreFound}, Flows.{StaysFrom}}
 use Rattle.flow_check.proofs.{RowOutcomes.{stands_known}, GroupEnds.{set_for}}
 use Rattle.flow_check.proofs.FlowLaws.{numbers_there, proper_there, next_row, stays_there, leaves_there, flow_leaves, flow_stays}
 use Rattle.flow_check.proofs.flow.flow_of.Goals as goal
@@ -57,7 +57,7 @@ loop-row-preserved c =
     let exits = c.in_ok-groups.ensures.exits in
     let groups = c.in_ok-groups.groups.items in
     let all = subst (λ (gs : List ExitGroup). AreAllIn rows gs) c.as_slice.ensures.value (OnTrue_at c.if-not-stay.false c.in_ok-stay.ensures.stay) in
-    let here : StaysAt app (sets_of (plain_table first rows)) row.point = stays_there app first rows c.requires.rows pool longer k row lt is after c.row_groups.ensures.pool groups exits all in
+    let here : StaysFrom app (sets_of (plain_table first rows)) row.point = stays_there app first rows c.requires.rows pool longer k row lt is after c.row_groups.ensures.pool groups exits all in
     let its = subst (λ (gs : List ExitGroup). AreExitsOf app (plain_row pool row) (all_exits after gs)) (sym c.as_slice-in-loop-row.ensures.value) exits in
     record {
       longer = longer_onward first pool after longer c.row_groups.ensures.pool;
@@ -71,7 +71,7 @@ loop-row-preserved c =
         | inr le ↦
             (let same : i ≡ k = omega (arith, le, below) in
             let at : row ≡ get_or rows i d = is ∙ get_or_default rows k row d lt ∙ ap (λ (j : ℕ). get_or rows j d) (sym same) in
-            subst (λ (r : NumberedRow). StaysAt app (sets_of (plain_table first rows)) r.point) at here)
+            subst (λ (r : NumberedRow). StaysFrom app (sets_of (plain_table first rows)) r.point) at here)
       ];
     }
 
