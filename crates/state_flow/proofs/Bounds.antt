@@ -8,7 +8,7 @@ use Rattle.osek_standard.proofs.{Members.{among_map, map_among, contained_among,
 use Rattle.abstract_state.specs.{declared.table.{PlainEntry.{PlainEntry}, TableRow.{TableRow}, PlainTable.{PlainTable}}, Domains.{HasMasks}, Tables.{entry_values, value_count}}
 use Rattle.abstract_state.specs.Written.{IsWritten}
 use Rattle.abstract_state.proofs.{DomainValues.{domain_counted}, LatticeLaws.{most_values}, HeightLaws.{entry_height_is, sum_map}}
-use Rattle.state_flow.specs.{declared.cells.Cell.{Cell}, Cells.{IsWaitingAt, NoneWaitsFrom}, Rows.{row_of, table_of}, Progress.{values_in, Progress}}
+use Rattle.state_flow.specs.{declared.cells.Cell.{Cell}, Cells.{IsWaitingCell, NoneWaitsFrom}, Rows.{row_of, table_of}, Progress.{values_in, Progress}}
 use Rattle.state_flow.proofs.{RowLaws.{written}, Closing.{room_left, counted_at_end}}
 
 same_laws : IsEquivalence (eq_by_cmp nat_cmp)
@@ -50,7 +50,7 @@ pub values_same : (cells : List (Cell PlainEntry)) → value_count (table_of cel
 values_same cells = sum_map (λ (row : TableRow). entry_values row.entry) row_of cells
 
 -- while a cell waits, fewer evaluations were made than points and their values
-pub room : (app : App) → HasMasks app → (cells : List (Cell PlainEntry)) (n place : ℕ) → Progress app cells n → IsWaitingAt cells place → n < points app + points app * height app
+pub room : (app : App) → HasMasks app → (cells : List (Cell PlainEntry)) (n place : ℕ) → Progress app cells n → IsWaitingCell cells place → n < points app + points app * height app
 room app masks cells n place progress at =
     let whole = written app cells progress.cells_proper in
     omega (arith, room_left app cells n place progress at, rows_few app (table_of cells) whole, values_few app (table_of cells) whole masks, values_same cells, length-map cells row_of)

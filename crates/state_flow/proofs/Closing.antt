@@ -13,7 +13,7 @@ use Rattle.abstract_state.specs.Regular.{IsRegular}
 use Rattle.abstract_state.proofs.{RegularLaws.{start_regular, step_regular}, ContainmentLaws.{in_larger}, AlikeLaws.{in_alike}, MarkLaws.{shown_silent}}
 use Rattle.flow_model.specs.Effects.{IsAt}
 use Rattle.numbered_sets.specs.PlainTables.{row_at}
-use Rattle.state_flow.specs.{declared.cells.Cell.{Cell}, Cells.{AreCellsInOrder, IsWaitingAt, NoneWaitsFrom, WasEvaluatedWith, cell_number, waits, waiting_count}}
+use Rattle.state_flow.specs.{declared.cells.Cell.{Cell}, Cells.{AreCellsInOrder, IsWaitingCell, NoneWaitsFrom, WasEvaluatedWith, cell_number, waits, waiting_count}}
 use Rattle.point_exits.specs.Rows.{IsProperRow, IsRowIn}
 use Rattle.state_flow.specs.Rows.{row_of, sets_in}
 use Rattle.point_exits.specs.Starts.{IsStartRow}
@@ -213,7 +213,7 @@ pub counted_at_end : (app : App) (cells : List (Cell PlainEntry)) (n : ℕ) → 
 counted_at_end app cells n progress none = (omega (arith, progress.most, none_waiting cells none), omega (arith, progress.fewest, none_waiting cells none))
 
 -- while a cell waits, fewer evaluations were made than cells and values there are
-pub room_left : (app : App) (cells : List (Cell PlainEntry)) (n place : ℕ) → Progress app cells n → IsWaitingAt cells place → n < length cells + values_in cells
+pub room_left : (app : App) (cells : List (Cell PlainEntry)) (n place : ℕ) → Progress app cells n → IsWaitingCell cells place → n < length cells + values_in cells
 room_left app cells n place progress at =
     let d : Cell PlainEntry = record { point = point.Halted; number = 0; waiting = false; entry = record { sets = [] }; before = None } in
     let some = get_or-le-sum_by waits cells place d at.known in

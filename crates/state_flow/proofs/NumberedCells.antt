@@ -10,7 +10,7 @@ use Rattle.numbered_sets.specs.{declared.{numbered_entry.NumberedEntry.{Numbered
 use Rattle.numbered_sets.specs.{Pools.{Values, no_values, pool_domains, AreValues, IsLonger}, Views.{plain_entry, AreNumbersOf}}
 use Rattle.numbered_sets.proofs.{ViewLaws.{same_view, still_known, same_heights, same_domains}, KnownNumbers.{known_sound}}
 use Rattle.numbered_sets.specs.PlainTables.{row_at, plain_row, plain_rows}
-use Rattle.state_flow.specs.{declared.cells.Cell.{Cell}, Cells.{cell_number, AreCellsInOrder, IsWaitingAt, NoneWaitsFrom, MayJoin, IsJoined}}
+use Rattle.state_flow.specs.{declared.cells.Cell.{Cell}, Cells.{cell_number, AreCellsInOrder, IsWaitingCell, NoneWaitsFrom, MayJoin, IsJoined}}
 use Rattle.point_exits.specs.Rows.{IsProperRow}
 use Rattle.state_flow.specs.Progress.{AreProperCells, AreJoined}
 use Rattle.state_flow.proofs.{CellLists.{set_cases}, JoinedRows.{may_join, joined_one}, Closing.{evaluated, evaluated_proper, progress_made}}
@@ -37,7 +37,7 @@ numbered_order pool cells order = record {
 }
 
 -- cells that wait
-pub waits_plain : (pool : List Values) (cells : List (Cell NumberedEntry)) (place : ℕ) → IsWaitingAt cells place → IsWaitingAt (plain_cells pool cells) place
+pub waits_plain : (pool : List Values) (cells : List (Cell NumberedEntry)) (place : ℕ) → IsWaitingCell cells place → IsWaitingCell (plain_cells pool cells) place
 waits_plain pool cells place h = record {
   known = (let long = length-map cells (plain_cell pool) in omega (arith, h.known, long));
   waits = λ d.
@@ -120,7 +120,7 @@ asked cell kept = record cell { waiting = false; before = kept }
 pub nothing_kept : (cell : Cell NumberedEntry) → ForSome None (λ (x : NumberedEntry). x ≡ cell.entry)
 nothing_kept cell x is_kept = absurd (cc)
 
-module _ (app : App) (pool : List Values) (cells : List (Cell NumberedEntry)) (place : ℕ) (cell : Cell NumberedEntry) (numbered : AreNumberedCells app pool cells) (waits : IsWaitingAt cells place) (is : get_or cells place cell ≡ cell) where
+module _ (app : App) (pool : List Values) (cells : List (Cell NumberedEntry)) (place : ℕ) (cell : Cell NumberedEntry) (numbered : AreNumberedCells app pool cells) (waits : IsWaitingCell cells place) (is : get_or cells place cell ≡ cell) where
   among : Contains cells cell
   among = (place, waits.known, is)
 

@@ -13,7 +13,7 @@ module _ {E : Type 0} where
     pub told : (k : ℕ) (d : Cell E) → k < length cells → (slice_index_or cells k d).number ≡ cell_number (slice_index_or cells k d)
     pub ascend : AscendBy cell_number cells
 
-  pub record IsWaitingAt (cells : List (Cell E)) (place : ℕ) : Type 0 where
+  pub record IsWaitingCell (cells : List (Cell E)) (place : ℕ) : Type 0 where
     pub known : place < length cells
     pub waits : (d : Cell E) → (slice_index_or cells place d).waiting ≡ true
 
@@ -27,7 +27,7 @@ module _ {E : Type 0} where
   -- the first cell that waits from a place on
   pub record IsFirstWaiting (cells : List (Cell E)) (from place : ℕ) : Type 0 where
     pub behind : from ≤ place
-    pub waits : IsWaitingAt cells place
+    pub waits : IsWaitingCell cells place
     pub first : NoneWaitsWithin cells from place
 
   -- the same, or, where none waits there, the first of all

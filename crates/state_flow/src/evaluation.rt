@@ -3,7 +3,7 @@ ghost use Rattle.std.specs.Prelude.{◌≡◌, ◌∷◌, [], ◌+◌, ℕ, Cont
 ghost use Rattle.abstract_state.specs.Domains.{HasMasks};
 ghost use Rattle.numbered_sets.specs.{declared.table.NumberedRow.{NumberedRow}, Pools.{IsLonger}};
 ghost use Rattle.point_exits.specs.Levels.{AreLevels};
-ghost use Rattle.state_flow.specs.{Cells.{IsWaitingAt}, Numbering.{AreNumberedCells, AreRowsEvaluated, HasProgress, IsKnownRow}};
+ghost use Rattle.state_flow.specs.{Cells.{IsWaitingCell}, Numbering.{AreNumberedCells, AreRowsEvaluated, HasProgress, IsKnownRow}};
 
 use crate::cells::Cell;
 use crate::joining::join_groups;
@@ -26,7 +26,7 @@ pub fn turn(
     requires masks { HasMasks app.now }
     requires levels { AreLevels app.now pool.old levels.old }
     requires cells { AreNumberedCells app.now pool.old cells.old.items }
-    requires waits { IsWaitingAt cells.old.items place }
+    requires waits { IsWaitingCell cells.old.items place }
     ensures levels { OnOk result (AreLevels app.now pool.new levels.new) }
     ensures progress { OnOk result ((n : ℕ) → HasProgress app.now pool.old cells.old.items n → HasProgress app.now pool.new cells.new.items (n + 1)) }
 {
@@ -49,7 +49,7 @@ fn evaluate_news(
     requires masks { HasMasks app.now }
     requires levels { AreLevels app.now pool.old levels.old }
     requires cells { AreNumberedCells app.now pool.old cells.old.items }
-    requires waits { IsWaitingAt cells.old.items place }
+    requires waits { IsWaitingCell cells.old.items place }
     ensures levels { OnOk result (AreLevels app.now pool.new levels.new) }
     ensures progress { OnOk result ((n : ℕ) → HasProgress app.now pool.old cells.old.items n → HasProgress app.now pool.new cells.new.items (n + 1)) }
 {
@@ -70,7 +70,7 @@ fn evaluate_whole(
     requires masks { HasMasks app.now }
     requires levels { AreLevels app.now pool.old levels.old }
     requires cells { AreNumberedCells app.now pool.old cells.old.items }
-    requires waits { IsWaitingAt cells.old.items place }
+    requires waits { IsWaitingCell cells.old.items place }
     ensures levels { OnOk result (AreLevels app.now pool.new levels.new) }
     ensures progress { OnOk result ((n : ℕ) → HasProgress app.now pool.old cells.old.items n → HasProgress app.now pool.new cells.new.items (n + 1)) }
 {

@@ -3,7 +3,7 @@ use Rattle.osek_standard.specs.Counts.{points, height}
 use Rattle.abstract_state.specs.{declared.table.PlainTable.{PlainTable}, Tables.{Least, sets_of, value_count}, Written.{IsWritten}}
 use Rattle.numbered_sets.specs.{declared.numbered_entry.NumberedEntry.{NumberedEntry}}
 use Rattle.table_rows.specs.Order.{AscendBy}
-use Rattle.state_flow.specs.{declared.cells.Cell.{Cell}, Cells.{IsWaitingAt, IsNextWaiting, NoneWaitsFrom}, Rows.{table_of}}
+use Rattle.state_flow.specs.{declared.cells.Cell.{Cell}, Cells.{IsWaitingCell, IsNextWaiting, NoneWaitsFrom}, Rows.{table_of}}
 use Rattle.state_flow.proofs.{CellLists.{by_told, next_waits}, RowLaws.{written}, Closing.{least_at_end}, Bounds.{room, values_few, rows_evaluated, evaluations_few}}
 use Rattle.state_flow.specs.PlainCells.{plain_cells}
 use Rattle.state_flow.proofs.{NumberedCells.{numbered_order, waits_plain, none_waits_plain, tasks_few}, CellRows.{rows_known, table_alike}}
@@ -28,7 +28,7 @@ pub loop-place-smaller : goal.loop-place-smaller
 loop-place-smaller g c =
     let cells = c.loop-place.cells.items in
     let pool = c.loop-place.pool in
-    let waits : IsWaitingAt cells c.in-Some.place = next_waits cells c.loop-place.from c.in-Some.place (subst (λ (xs : List (Cell NumberedEntry)). IsNextWaiting xs c.loop-place.from c.in-Some.place) c.as_slice.ensures.value c.in-Some.ensures.found) in
+    let waits : IsWaitingCell cells c.in-Some.place = next_waits cells c.loop-place.from c.in-Some.place (subst (λ (xs : List (Cell NumberedEntry)). IsNextWaiting xs c.loop-place.from c.in-Some.place) c.as_slice.ensures.value c.in-Some.ensures.found) in
     let left : c.loop-place.invariant.0 < points c.args.app.now + points c.args.app.now * height c.args.app.now =
     room c.args.app.now c.masks_are_few.ensures (plain_cells pool cells) c.loop-place.invariant.0 c.in-Some.place c.loop-place.invariant.2.progress (waits_plain pool cells c.in-Some.place waits) in
     let steps = c.loop-place.invariant.1 in
