@@ -7,6 +7,9 @@
     routine_waits W I S one task waits at W places for an event, which I interrupt routines set at S places each
     alarm_waits W A     one task waits at W places for an event, which A alarms set
     routines I B        I interrupt routines of B blocks each over sixteen tasks
+    nested_routines I B the same, each routine with a priority of its own
+    nested_stacks I R   I routines, each with a priority of its own, and a task take R resources in any order
+    levels T R C        T tasks take R resources whose ceilings go up, one behind the other, with C activations in between
 
     bench/make_worst.py stacks 1 5 1 8 60 DIR        writes DIR/app.oil, DIR/app.code
 """
@@ -80,12 +83,35 @@ def alarm_waits(places, alarms):
     return oil + ['ALARM A%d { COUNTER = C%d; %s };' % (k, k % 8, acts) for k in range(alarms)], code + bodies
 
 
-def routines(count, blocks):
+def routines(count, blocks, priority=''):
     oil = ['TASK T%d { PRIORITY = %d; AUTOSTART = TRUE; };' % (k, k + 1) for k in range(TASKS)]
     code = [line for k in range(TASKS) for line in body('TASK', 'T%d' % k, ['TerminateTask();'])]
     calls = ['ActivateTask(T%d);' % (k % TASKS) for k in range(blocks - 1)]
-    return oil + ['ISR I%d { CATEGORY = 2; };' % k for k in range(count)], \
+    return oil + ['ISR I%d { CATEGORY = 2; %s};' % (k, priority.replace('#', str(k + 1))) for k in range(count)], \
         code + [line for k in range(count) for line in body('ISR', 'I%d' % k, calls)]
+
+
+def nested_routines(count, blocks):
+    return routines(count, blocks, 'PRIORITY = #; ')
+
+
+def nested_stacks(routines, resources):
+    """Each may take each resource, and then give each back."""
+    names = ' '.join('RESOURCE = R%d;' % k for k in range(resources))
+    oil = ['RESOURCE R%d;' % k for k in range(resources)] + ['TASK T0 { PRIORITY = 1; AUTOSTART = TRUE; %s };' % names]
+    oil += ['ISR I%d { CATEGORY = 2; PRIORITY = %d; %s };' % (k, k + 1, names) for k in range(routines)]
+    moves = ['if (?) { %s(R%d); }' % (call, k) for call in ('GetResource', 'ReleaseResource') for k in range(resources)]
+    return oil, body('TASK', 'T0', loop(moves)) + [line for k in range(routines) for line in body('ISR', 'I%d' % k, loop(moves, '?'))]
+
+
+def levels(tasks, resources, calls):
+    taken = [[r for r in range(resources) if r * tasks // resources >= k - 1] for k in range(tasks)]
+    oil, code = ['RESOURCE R%d;' % r for r in range(resources)], []
+    for k, names in enumerate(taken):
+        oil.append('TASK T%d { PRIORITY = %d; %s%s };' % (k, k + 1, '' if k else 'AUTOSTART = TRUE; ', ' '.join('RESOURCE = R%d;' % r for r in names)))
+        lines = ['if (?) { GetResource(R%d); }' % r for r in names] + ['ActivateTask(T%d);' % ((k + 1 + c) % tasks) for c in range(calls)]
+        code += body('TASK', 'T%d' % k, loop(lines + ['ReleaseResource(R%d);' % r for r in reversed(names)], '?') + ['TerminateTask();'])
+    return oil, code
 
 
 LINED, FILLED = 15, 255
@@ -119,6 +145,9 @@ FAMILIES = {
     'routine_waits': Family(routine_waits, 3, 'a task that waits at {0} places for an event, which {1} routines set at {2} places each'),
     'alarm_waits': Family(alarm_waits, 2, 'a task that waits at {0} places for an event, which {1} alarms set'),
     'routines': Family(routines, 2, '{0} routines of {1} blocks over 16 tasks'),
+    'nested_routines': Family(nested_routines, 2, '{0} nesting routines of {1} blocks over 16 tasks'),
+    'nested_stacks': Family(nested_stacks, 2, '{1} resources in any order in one task and in {0} nesting routines'),
+    'levels': Family(levels, 3, '{1} resources whose ceilings go up, one behind the other in {0} tasks, {2} calls each'),
 }
 
 

@@ -47,6 +47,21 @@ class Measurements(unittest.TestCase):
                 self.assertRegex(cell.strip(), r'^(\d|a task|`examples|waits|any order)', name)
         self.assertEqual(tables['worst'].splitlines()[2].split('|')[1].strip(), 'a task that waits at 2 places for 1 events, which another one sets at 2')
 
+    def test_two_programs_are_compared(self):
+        with tempfile.TemporaryDirectory() as folder:
+            programs = [os.path.join(folder, name) for name in ('before', 'now')]
+            for name, more in zip(programs, ('', '; echo more')):
+                with open(name, 'w', encoding='utf-8') as file:
+                    file.write('#!/bin/sh\n%s %s "$@"%s\n' % (sys.executable, os.path.join(TOOLS, 'model.py'), more))
+                os.chmod(name, 0o755)
+            words = '--samples first,2x1,levels:2:1:1 --times 1'.split()
+            tables = [subprocess.run([sys.executable, os.path.join(BENCH, 'compare.py'), *words, programs[0], other], check=True, capture_output=True,
+                                     text=True).stdout.splitlines() for other in programs]
+        for table, printed in zip(tables, ('the same', 'something else')):
+            cells = [line.strip('|').split(' | ') for line in table]
+            self.assertEqual([len(cells), len({len(row) for row in cells})], [5, 1])
+            self.assertEqual([row[-1].strip() for row in cells[2:]], [printed] * 3)
+
     def test_the_page_has_the_marks_of_all_tables(self):
         text = run.marked_page(PAGE)
         self.assertEqual(pages.with_table(text, 'size', 'x\n').count('x\n<!-- end of size -->'), 1)
