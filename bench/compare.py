@@ -76,6 +76,10 @@ def instructions(program, folder):
     return int(found.group(1)) / 1e6
 
 
+def told_times(times):
+    return '%.0f' % times if times >= 100 else '%.3g' % times
+
+
 def same(folder):
     """Whether both programs printed the same."""
     return len({given.contents(os.path.join(folder, 'show%d.out' % k)) for k in range(2)}) == 1
@@ -93,7 +97,7 @@ def compared(benches, words):
         runs = least(benches, at)
         is_short = all(one.status == 0 and one.seconds < COUNTED for one in runs)
         counts = ['%.1f' % instructions(bench.program, folder) if is_short else '' for bench in benches] if words.instructions else []
-        times = ['%.3g' % (one.seconds / unit) if one.status == 0 else 'stopped' for one in runs]
+        times = [told_times(one.seconds / unit) if one.status == 0 else 'stopped' for one in runs]
         yield [name, *times, *('%.1f' % one.megabytes for one in runs), *counts, 'the same' if same(folder) else 'something else']
 
 

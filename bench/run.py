@@ -55,15 +55,16 @@ def run(words, folder, out, limit):
     """Runs a command with its output in a file, and stops it after `limit` seconds."""
     with open(os.path.join(folder, out), 'wb') as file:
         process = subprocess.Popen(words, cwd=folder, stdin=subprocess.DEVNULL, stdout=file, stderr=file)
-    end, kilobytes = time.monotonic() + limit, 0
+    begun, kilobytes = time.monotonic(), 0
     while True:
         kilobytes = max(kilobytes, memory_of(process.pid))
         done, ended, usage = os.wait4(process.pid, os.WNOHANG)
         if done:
             break
-        if time.monotonic() > end:
+        passed = time.monotonic() - begun
+        if passed > limit:
             process.kill()
-        time.sleep(0.005)
+        time.sleep(0.0001 if passed < 0.05 else 0.005)
     process.returncode = ended
     status = os.WEXITSTATUS(ended) if os.WIFEXITED(ended) else None
     return Run(status, usage.ru_utime + usage.ru_stime, kilobytes / 1024)
