@@ -4,6 +4,7 @@
 
 mod inputs;
 mod playing;
+mod record_line;
 mod replaying;
 mod running;
 mod showing;

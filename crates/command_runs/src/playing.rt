@@ -9,23 +9,19 @@ ghost use Rattle.trace_text.specs.{EventWords.{read_line}, EventText.{numbered_l
 ghost use Rattle.command_runs.specs.declared.{showing.Showing.TheVariants.{Trace}, stop.Stop.TheVariants.{Trapped, Unprinted}};
 
 use crate::inputs::read_on;
+use crate::record_line::RecordLine;
 use crate::running::Run;
 use crate::showing::Showing;
 use crate::stop::{Input, Stop};
 use crate::tell::put_three;
 use crate::trace_line::TraceLine;
-use generic_kernel::point_of;
 use image_run::Machine;
 use itoa::Buffer;
 use osek_io::{PutBuffer, PutError, Shelf, Sink};
 use osek_values::limits::{MAX_EVENT_LINE, MAX_EVENT_TEXT};
 use osek_values::{Event, HookSet, Notes, Steps};
 use std::sync::ledger::Ledger;
-use text_pieces::put_byte;
-use trace_text::{FaultyLine, Feed, FeedStep, LineParts, MAX_POINT, put_point, read_event};
-
-/// The most bytes of a point and its LF.
-const POINT_LINE: usize = MAX_POINT + 1;
+use trace_text::{FaultyLine, Feed, FeedStep, LineParts, read_event};
 
 /// Which event and which line of its text come next, each by its number.
 #[derive(Clone, Copy)]
@@ -100,16 +96,16 @@ impl<L: Ledger> Play<L> {
     }
 
     /// Prints the point of the state, or holds it back.
+    #[inline(always)]
     fn print_point<O: Sink>(&mut self, out: &mut O) -> Result<(), Stop>
         ensures machine { self.new.machine ≡ self.old.machine }
         ensures place { self.new.place ≡ self.old.place }
         ensures line { HeldAnswers (given (sunk O.Sink out.old) self.old.buffer) (given (sunk O.Sink out.new) self.new.buffer) (played (point_line self.old.machine.image self.old.machine.state) (Ok tt)) result }
     {
-        let mut line = [0u8; POINT_LINE];
-        let app = self.machine.app();
-        let end = put_point(&mut line, 0, app, point_of(app, self.machine.state()));
-        let end = put_byte(&mut line, end, b'\n');
-        match self.buffer.put(out, &line[..end]) {
+        let line = RecordLine {
+            machine: &self.machine,
+        };
+        match self.buffer.put_piece(out, &line) {
             Ok(()) => Ok(()),
             Err(PutError::Write) => Err(Stop::Unprinted),
         }
@@ -168,6 +164,7 @@ impl<L: Ledger> Play<L> {
     }
 
     /// A step of the machine, and whether it is no trap.
+    #[inline(always)]
     fn step(&mut self, event: Event, notes: &mut Notes) -> bool
         requires declared { IsDeclared self.old.machine.image.app event }
         requires running { self.old.machine.trapped ≡ false }
@@ -182,6 +179,7 @@ impl<L: Ledger> Play<L> {
     }
 
     /// Plays one event: a step of the machine, and its line.
+    #[inline(always)]
     fn play_event<O: Sink>(
         &mut self,
         out: &mut O,
@@ -208,6 +206,7 @@ impl<L: Ledger> Play<L> {
     }
 
     /// Plays the next line of the event text: none or one event.
+    #[inline(always)]
     fn play_line<O: Sink>(&mut self, out: &mut O, showing: Showing, line: &[u8]) -> Result<(), Stop>
         requires running { self.old.machine.trapped ≡ false }
         requires fits { self.old.place.line ≤ MAX_EVENT_TEXT }

@@ -30,6 +30,7 @@ impl<'a> Piece for TraceLine<'a> {
         LINE_MAX
     }
 
+    #[inline(always)]
     fn write_at(&self, into: &mut [u8], at: usize) -> usize {
         put_line(
             into,
