@@ -116,6 +116,7 @@ fn event_of(app: &App, verb: &[u8], operand: &[u8]) -> Result<Option<Event>, Eve
     Err(EventFault::E1)
 }
 
+#[inline(never)]
 fn event_in(app: &App, line: &[u8]) -> Result<Option<Event>, EventFault>
     ensures { result ≡ said app.now (words line.now) }
 {
@@ -167,6 +168,7 @@ fn tick_name(line: &[u8]) -> Option<&[u8]>
 
 // What most other lines say, judged at one look: an interrupt or a tick of a source that is declared, spelled with no blank
 // more than it needs.
+#[inline(never)]
 fn plain_source(app: &App, line: &[u8]) -> Option<Event>
     ensures { IfSome result (λ event. read_line app.now line.now ≡ Ok (Some event)) }
 {
@@ -187,6 +189,7 @@ fn plain_source(app: &App, line: &[u8]) -> Option<Event>
 
 /// What a line says, without its LF and the CR before it: an event, or none in a line of blanks alone or one whose
 /// first other byte is `#`. It takes no memory.
+#[inline(always)]
 pub fn read_event(app: &App, line: &[u8]) -> Result<Option<Event>, EventFault>
     ensures { result ≡ read_line app.now line.now }
 {

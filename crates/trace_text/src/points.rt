@@ -14,6 +14,7 @@ pub const MAX_BLOCK: usize = 1 + MAX_DECIMAL;
 pub const MAX_POINT: usize = MAX_BLOCK + 1 + MAX_NAME;
 
 /// Puts a block, by its number. It takes no memory.
+#[inline(always)]
 pub fn put_block(buf: &mut [u8], at: usize, block: BlockNo) -> usize
     requires room { at + MAX_BLOCK ≤ length buf.old }
     ensures text { take result buf.new ≡ take at buf.old ++ block_text block.0 }
@@ -37,6 +38,7 @@ pub fn put_task(buf: &mut [u8], at: usize, app: &App, task: Option<TaskNo>) -> u
 }
 
 /// Puts a point: a word, or a block and what its routine interrupted. It takes no memory.
+#[inline(always)]
 pub fn put_point(buf: &mut [u8], at: usize, app: &App, point: Point) -> usize
     requires known { IsPoint app.now point }
     requires room { at + MAX_POINT ≤ length buf.old }
