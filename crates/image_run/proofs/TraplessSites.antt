@@ -1,5 +1,5 @@
 -- At a site that takes all no trap comes.
-use Rattle.std.proofs.Common.{◌≡◌, ◌≢◌, ℕ, Bool, true, false, not, refl, sym, nat_lt, ap, ◌∙◌, arith, inl, inr, None, Some, option_map}
+use Rattle.std.proofs.Common.{◌≡◌, ◌≢◌, ℕ, Bool, true, false, not, refl, sym, nat_lt, ap, ◌∙◌, ◌==◌, arith, inl, inr, List, length, None, Some, option_map}
 use Rattle.std.proofs.lemmas.Bool.{and_parts, cases_Bool, false≢true}
 use Rattle.std.specs.{Prelude.{⊤, if◌then◌else◌}, declared.option.Option.{Option}}
 use Rattle.osek_values.specs.declared.{status.{Ask.{Ask}, Status.{Status, TheVariants.{Limit}}}, numbers.{TaskNo.{TaskNo}, BlockNo.{BlockNo}, ResNo.{ResNo}, SourceNo.{SourceNo}}}
@@ -8,8 +8,8 @@ use Rattle.osek_values.specs.declared.status.Status.TheVariants as status
 use Rattle.oil_system.specs.declared.objects.Schedule.{Schedule, TheVariants.{Non, Full}}
 use Rattle.osek_standard.specs.declared.{app.App.{App}, block.{Block.{Block}, Kind.{Kind}}, task_state.{Place.{Place}, TaskState.{TaskState}, Activity.{Activity, TheVariants.{Suspended, Live, Waiting}}}}
 use Rattle.osek_standard.specs.declared.state.{State.{State}, Processor.{Processor}, Caller.{Caller, TheVariants.{Nobody, Task, Routine}}}
-use Rattle.osek_standard.specs.{Apps.{the_block, the_task, is_extended}, TaskStates.{held, is_suspended}, States.{caller, here, task_state, with_source}, Priority.{base_priority, ceiling}}
-use Rattle.osek_standard.specs.Services.{Answer, activate_task, holds_some, is_full, is_full_by, is_on_top, release_resource, release_resource_by, release_resource_isr, schedule, set_event, stack_of_source, waits_for}
+use Rattle.osek_standard.specs.{Apps.{the_block, the_task, is_extended}, TaskStates.{held, held_in, is_suspended}, States.{caller, here, task_state, with_source}, Priority.{base_priority, ceiling}}
+use Rattle.osek_standard.specs.Services.{Answer, activate_task, holds_some, is_full, is_full_by, is_on_top, release_resource, release_resource_by, release_resource_isr, schedule, set_event, stack_of_source, terminate_task, waits_for}
 use Rattle.osek_standard.specs.{Effects.{Effect, asked_by, asked_over, asked_under, effect, effect_at, end_task, given_back, is_schedule, moved_by, moved_to, place_at, standing_at, task_at, returned_by, returned_to}}
 use Rattle.osek_standard.specs.{Dispatch.{Outcome, concluded, is_left}, Levels.{interrupt_ceiling, next_routine, own_level}, Well.{Well, IsActive, IsProcessor}}
 use Rattle.osek_standard.specs.declared.block.Kind.TheVariants as kind
@@ -22,7 +22,7 @@ use Rattle.image_model.specs.Statuses.{allows_status}
 use Rattle.image_model.specs.CallNames as call
 use Rattle.image_model.specs.declared.site.Form.TheVariants as form
 use Rattle.image_model.specs.declared.site.Known.TheVariants as known
-use Rattle.image_run.specs.Trapless.{allows_all, foresees, is_trapless, keeps_caller, takes_all}
+use Rattle.image_run.specs.Trapless.{allows_all, foresees, is_trapless, keeps_caller, takes_all, termination_status}
 
 -- nobody left
 abbrev Stays : Answer → Type 0
@@ -117,6 +117,11 @@ full_anywhere n Suspended to = refl
 full_anywhere n (Live x) to = refl
 full_anywhere n (Waiting b) to = refl
 
+held_anywhere : (a : Activity) (to : Place) → held_in (standing_at a to) ≡ held_in a
+held_anywhere Suspended to = refl
+held_anywhere (Live x) to = refl
+held_anywhere (Waiting b) to = refl
+
 module _ (app : App) (s : State) (w : Well app s) where
   full_moved : (to : Place) (p : Processor) → IsProcessor app s p → (t : ℕ) → is_full app (moved_by s p to) t ≡ is_full app s t
   full_moved to processor.Halted h t = refl
@@ -125,6 +130,31 @@ module _ (app : App) (s : State) (w : Well app s) where
       task_after s u.0 (task_at (task_state s u.0) to) (omega (arith, w.tasks_len, h.running.0)) (λ (v : ℕ) (y : TaskState). is_full_by (the_task app v).activation y.activity ≡ is_full app s v)
       (full_anywhere (the_task app u.0).activation (task_state s u.0).activity to) (λ v other. refl) t
   full_moved to (processor.Interrupted k over) h t = refl
+
+  holds_moved : (to : Place) (p : Processor) → IsProcessor app s p → (t : ℕ) → holds_some (moved_by s p to) t ≡ holds_some s t
+  holds_moved to processor.Halted h t = refl
+  holds_moved to processor.Idle h t = refl
+  holds_moved to (processor.Running u) h t =
+      task_after s u.0 (task_at (task_state s u.0) to) (omega (arith, w.tasks_len, h.running.0)) (λ (v : ℕ) (y : TaskState). not (length (held y) == 0) ≡ holds_some s v)
+      (ap (λ (l : List ResNo). not (length l == 0)) (held_anywhere (task_state s u.0).activity to)) (λ v other. refl) t
+  holds_moved to (processor.Interrupted k over) h t = refl
+
+  termination_of : (r : State) (c : Caller) → (terminate_task app r c).status ≡ termination_status r c
+  unfolding terminate_task
+  termination_of r Nobody = refl
+  termination_of r (Routine k) = refl
+  termination_of r (Task t) = elim (cases_Bool (holds_some r t.0)) [
+    | inl e ↦ (rw e refl)
+    | inr e ↦ (rw e refl)
+  ]
+
+  held_status : (r : State) (c : Caller) → ((t : ℕ) → holds_some r t ≡ holds_some s t) → termination_status r c ≡ termination_status s c
+  held_status r Nobody same = refl
+  held_status r (Routine k) same = refl
+  held_status r (Task t) same = ap (λ (b : Bool). if b then Some status.Resource else None) (same t.0)
+
+  termination_notes : (next : BlockNo) (c : Caller) → (terminate_task app (moved_to s next) c).status ≡ termination_status s c
+  termination_notes next c = termination_of (moved_to s next) c ∙ held_status (moved_to s next) c (holds_moved (place_at next 0) s.processor w.processor)
 
   status_of : (r : State) (t : ℕ) → (activate_task app r t).status ≡ Some (if is_full app r t then Limit else status.Ok)
   unfolding activate_task
@@ -154,7 +184,10 @@ module _ (app : App) (s : State) (w : Well app s) where
     allowed_at (kind.Call (call.Task call.ChainTask t)) e = any_allowed x _ e
     allowed_at (kind.Call (call.Task call.GetEvent t)) e = any_allowed x _ e
     allowed_at (kind.Call (call.Task call.GetTaskState t)) e = any_allowed x _ e
-    allowed_at (kind.Call (call.Plain v)) e = any_allowed x _ e
+    allowed_at (kind.Call (call.Plain call.TerminateTask)) e = ap (allows_status x) (termination_notes b.next (caller s.processor)) ∙ e
+    allowed_at (kind.Call (call.Plain call.Schedule)) e = any_allowed x _ e
+    allowed_at (kind.Call (call.Plain call.GetTaskId)) e = any_allowed x _ e
+    allowed_at (kind.Call (call.Plain call.GetActiveApplicationMode)) e = any_allowed x _ e
     allowed_at (kind.Call (call.Resource v r)) e = any_allowed x _ e
     allowed_at (kind.Call (call.SetEvent t m)) e = any_allowed x _ e
     allowed_at (kind.Call (call.Mask v m)) e = any_allowed x _ e

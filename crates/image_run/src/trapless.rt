@@ -1,14 +1,14 @@
 //! Sites at which it is known before an instruction is done that no trap comes of it: nothing has to be kept there for an
 //! undoing.
 ghost use Rattle.std.specs.Prelude.{◌≡◌, ◌≢◌, true, None, Bool};
-ghost use Rattle.osek_standard.specs.{Apps.{tables}, States.{here as here_of}, Validity.{NamesEntries}, Well.{Well, IsActive}};
+ghost use Rattle.osek_standard.specs.{Apps.{tables}, States.{caller as the_caller, here as here_of}, Validity.{NamesEntries}, Well.{Well, IsActive}};
 ghost use Rattle.image_model.specs.ImageStep.{instructed, site_at as site_at_of};
-ghost use Rattle.image_run.specs.Trapless.{foresees as foresees_at, keeps_caller as keeps_caller_at, takes_all as takes_all_at};
+ghost use Rattle.image_run.specs.Trapless.{foresees as foresees_at, keeps_caller as keeps_caller_at, takes_all as takes_all_at, termination_status as the_termination_status};
 
 use activation::is_full;
 use generic_kernel::here;
 use image_model::{Form, Image, Known, Site};
-use osek_standard::{App, Call, Kind, PlainService, ResourceService, State, TaskService};
+use osek_standard::{App, Call, Caller, Kind, PlainService, ResourceService, State, TaskService};
 use osek_values::Status;
 
 /// Whether after an instruction of this kind the caller, or what a routine interrupted, is still there.
@@ -33,8 +33,26 @@ fn keeps_caller(kind: Kind) -> bool
     }
 }
 
+/// The status that TerminateTask of the caller will note, if it will note one.
+fn termination_status(app: &App, state: &State) -> Option<Status>
+    requires { Well app.now state.now }
+    ensures { result ≡ the_termination_status state.now (the_caller state.now.processor) }
+{
+    match state.caller() {
+        Caller::Nobody => None,
+        Caller::Routine(_) => Some(Status::CallLevel),
+        Caller::Task(task) => {
+            if state.task(task).holds_some() {
+                Some(Status::Resource)
+            } else {
+                None
+            }
+        }
+    }
+}
+
 /// Whether no other status than the known one will be noted. An activation notes E_OS_LIMIT where its task is full, and the
-/// end of a task notes nothing.
+/// closing brace of a task notes nothing.
 fn foresees(app: &App, state: &State, known: Known, kind: Kind) -> bool
     requires well { Well app.now state.now }
     requires operands { NamesEntries (tables app.now) kind }
@@ -47,6 +65,9 @@ fn foresees(app: &App, state: &State, known: Known, kind: Kind) -> bool
             } else {
                 Status::Ok
             }))
+        }
+        Kind::Call(Call::Plain(PlainService::TerminateTask)) => {
+            known.allows(termination_status(app, state))
         }
         Kind::TaskEnd => known.allows(None),
         _ => known == Known::Any,
