@@ -1,21 +1,22 @@
--- An instruction that only moves on, an arrival and a latch leave the tasks as they were.
-use Rattle.std.proofs.Common.{◌≡◌, ℕ, Bool, true, None, Some, is_some, refl, sym, ap, ◌∙◌, subst, inl, inr, arith, option_map, nat_lt, ◌+◌, ◌<◌, length, get_or-set_same, get_or-set_other}
-use Rattle.std.proofs.{lemmas.Bool.{cases_Bool}, Math.ListN.{length-set}}
+-- An instruction that leaves the tasks, an arrival and a latch leave them as they were.
+use Rattle.std.proofs.Common.{◌≡◌, ◌==◌, ◌||◌, not, ℕ, Bool, List, true, false, None, Some, is_some, slice_index_or, refl, sym, ap, ◌∙◌, subst, inl, inr, arith, option_map, nat_lt, ◌+◌, ◌<◌, length, get_or-set_same, get_or-set_other}
+use Rattle.std.proofs.{lemmas.Bool.{cases_Bool, false≢true}, Math.ListN.{length-set}}
 use Rattle.std.specs.{Prelude.{if◌then◌else◌}, declared.option.Option.{Option}}
 use Rattle.osek_values.specs.declared.{event.Event.{Event, TheVariants.{Run, Irq, Tick}}, numbers.{SourceNo.{SourceNo}}}
 use Rattle.osek_values.specs.declared.status.Ask.{Ask}
 use Rattle.osek_values.specs.declared.status.Ask.TheVariants as ask
-use Rattle.osek_standard.specs.declared.{app.App.{App}, block.{Block.{Block}, Kind.{Kind}}, state.{State.{State}, Processor.{Processor}}}
+use Rattle.osek_standard.specs.declared.{app.App.{App}, block.{Block.{Block}, Kind.{Kind}}, state.{State.{State}, Processor.{Processor}, Caller.{Caller, TheVariants.{Nobody, Task, Routine}}}}
 use Rattle.osek_standard.specs.declared.task_state.{Place.{Place}, TaskState.{TaskState}, Activity.{Activity, TheVariants.{Suspended, Live, Waiting}}}
-use Rattle.osek_standard.specs.{Apps.{the_block}, TaskStates.{is_inside_in, suspended}, States.{caller, here, nowhere, with_latch, task_of, task_state}, Internal.{inside_as, internal_of, kept, kept_by}}
-use Rattle.osek_standard.specs.{Effects.{Effect, effect, effect_at, effect_by, moved, moved_by, moved_to, noted, place_at, standing_at, task_at}, Services.{unnoted}, Arrivals.{arrival, entered}}
-use Rattle.osek_standard.specs.{Dispatch.{Keep, Stepped, concluded, outcome_of, silent}, Kernel.{entered_or, run_by}, Well.{Well, IsActive, IsProcessor}}
+use Rattle.osek_standard.specs.{Apps.{is_counter, is_cycle, is_extended, max_of, the_block}, TaskStates.{is_inside_in, is_suspended, suspended}, States.{alarm_state, caller, here, nowhere, with_latch, task_of, task_state}, Internal.{inside_as, internal_of, kept, kept_by, with_inside}}
+use Rattle.osek_standard.specs.{Effects.{Effect, asked_by, asks_as, effect, effect_at, effect_by, moved, moved_by, moved_to, noted, place_at, standing_at, task_at}, Services.{Answer, cancel_alarm, count_up, counted_by, due, expire, get_alarm, get_event, is_due_at, is_idle, set_abs_alarm, set_rel_alarm, time_left, unnoted, value_of}, Arrivals.{arrival, entered}}
+use Rattle.osek_standard.specs.{Dispatch.{Keep, Stepped, concluded, outcome_by, outcome_of, silent}, Kernel.{entered_or, run_by}, Well.{Well, IsActive, IsProcessor}}
 use Rattle.osek_standard.specs.declared.block.Kind.TheVariants as kind
 use Rattle.osek_standard.specs.declared.state.Processor.TheVariants as processor
-use Rattle.osek_standard.proofs.Keeps.{task_after}
+use Rattle.osek_standard.proofs.{BoolLaws.{either_way}, Keeps.{task_after}}
+use Rattle.image_model.specs.CallNames as call
 use Rattle.image_model.specs.{declared.{image.Image.{Image}, site.Site.{Site}}, ImageStep.{formed_at, image_step, instructed}}
 use Rattle.image_run.proofs.OtherEffects.{asked_no}
-use Rattle.image_run.specs.Quiet.{IsQuiet, IsQuietAt, IsQuietHere, IsSettled, KeepsTasks, only_moves}
+use Rattle.image_run.specs.Quiet.{IsQuiet, IsQuietAt, IsQuietHere, IsSettled, KeepsTasks, leaves_tasks}
 
 moved_processor : (s : State) (p : Processor) (to : Place) → (moved_by s p to).processor ≡ s.processor
 moved_processor s processor.Halted to = refl
@@ -53,35 +54,131 @@ module _ (app : App) (s : State) (w : Well app s) (to : Place) where
   kept_processor r (processor.Running u) = refl
   kept_processor r (processor.Interrupted k over) = refl
 
-  moves_on : IsSettled app s s.processor → KeepsTasks s (kept app (moved s to))
-  moves_on e = let same = moved_processor s s.processor to in record {
-    current = kept_processor (moved s to) (moved s to).processor ∙ ap task_of same;
-    tasks = λ t. subst (λ (p : Processor). task_at (task_state (kept_by app (moved s to) p) t) nowhere ≡ task_at (task_state s t) nowhere) (sym same) (kept_moved s.processor w.processor e t);
+  tasks_kept : (q m : State) (p : Processor) → q.tasks ≡ m.tasks → (kept_by app q p).tasks ≡ (kept_by app m p).tasks
+  tasks_kept q m processor.Halted e = e
+  tasks_kept q m processor.Idle e = e
+  tasks_kept q m (processor.Running u) e = ap (λ (l : List TaskState). (with_inside (record m { tasks = l }) u.0 (is_some (internal_of app u.0))).tasks) e
+  tasks_kept q m (processor.Interrupted k over) e = e
+
+  -- a state that has the tasks and the processor of a move
+  moves_on : (q : State) → q.tasks ≡ (moved s to).tasks → q.processor ≡ (moved s to).processor → IsSettled app s s.processor → KeepsTasks s (kept app q)
+  moves_on q tasks processor e = let same : q.processor ≡ s.processor = processor ∙ moved_processor s s.processor to in record {
+    current = kept_processor q q.processor ∙ ap task_of same;
+    tasks = λ t. subst (λ (p : Processor). task_at (task_state (kept_by app q p) t) nowhere ≡ task_at (task_state s t) nowhere) (sym same)
+        (ap (λ (l : List TaskState). task_at (slice_index_or l t suspended) nowhere) (tasks_kept q (moved s to) s.processor tasks) ∙ kept_moved s.processor w.processor e t);
   }
+
+-- an answer that changes no task and not the processor, and asks nothing
+abbrev IsAside : State → Answer → Type 0
+IsAside r a = ((a.state.tasks ≡ r.tasks) × (a.state.processor ≡ r.processor)) × (a.ask ≡ ask.No)
+
+module _ (app : App) (r : State) where
+  counted_aside : (c : Caller) → IsAside r (unnoted (counted_by app r c) ask.No)
+  unfolding count_up
+  counted_aside Nobody = ((refl, refl), refl)
+  counted_aside (Task t) = ((refl, refl), refl)
+  counted_aside (Routine k) =
+      ((either_way (λ (q : State). q.tasks ≡ r.tasks) (is_counter app k.0) _ _ refl refl, either_way (λ (q : State). q.processor ≡ r.processor) (is_counter app k.0) _ _ refl refl), refl)
+
+  get_event_aside : (t : ℕ) → IsAside r (get_event app r t)
+  unfolding get_event
+  get_event_aside t = either_way (IsAside r) (not (is_extended app t)) _ _ ((refl, refl), refl)
+      (either_way (IsAside r) (is_suspended (task_state r t)) _ _ ((refl, refl), refl) ((refl, refl), refl))
+
+  cancel_alarm_aside : (a : ℕ) → IsAside r (cancel_alarm app r a)
+  unfolding cancel_alarm
+  cancel_alarm_aside a = either_way (IsAside r) (is_idle (alarm_state r a)) _ _ ((refl, refl), refl) ((refl, refl), refl)
+
+  time_left_aside : (a : ℕ) (o : Option ℕ) → IsAside r (time_left app r a o)
+  time_left_aside a None = ((refl, refl), refl)
+  time_left_aside a (Some at) = ((refl, refl), refl)
+
+  get_alarm_aside : (a : ℕ) → IsAside r (get_alarm app r a)
+  unfolding get_alarm
+  get_alarm_aside a = time_left_aside a (due (alarm_state r a))
+
+  expire_aside : (a : ℕ) → is_due_at (due (alarm_state r a)) (value_of app r a) ≡ false → IsAside r (expire app r a)
+  unfolding expire
+  expire_aside a e = (rw e ((refl, refl), refl))
+
+  set_rel_alarm_aside : (a i y : ℕ) → IsAside r (set_rel_alarm app r a i y)
+  unfolding set_rel_alarm
+  set_rel_alarm_aside a i y = either_way (IsAside r) (not (is_idle (alarm_state r a))) _ _ ((refl, refl), refl)
+      (either_way (IsAside r) ((i == 0) || nat_lt (max_of app a) i || not (is_cycle app a y)) _ _ ((refl, refl), refl) ((refl, refl), refl))
+
+  set_abs_alarm_aside : (a i y : ℕ) → IsAside r (set_abs_alarm app r a i y)
+  unfolding set_abs_alarm
+  set_abs_alarm_aside a i y = either_way (IsAside r) (not (is_idle (alarm_state r a))) _ _ ((refl, refl), refl)
+      (either_way (IsAside r) (nat_lt (max_of app a) i || not (is_cycle app a y)) _ _ ((refl, refl), refl) ((refl, refl), refl))
+
+-- a move is at no other time
+due_moved : (app : App) (s : State) (to : Place) (a : ℕ) (p : Processor) →
+    is_due_at (due (alarm_state (moved_by s p to) a)) (value_of app (moved_by s p to) a) ≡ is_due_at (due (alarm_state s a)) (value_of app s a)
+due_moved app s to a processor.Halted = refl
+due_moved app s to a processor.Idle = refl
+due_moved app s to a (processor.Running t) = refl
+due_moved app s to a (processor.Interrupted k over) = refl
+
+not_true : (b : Bool) → not b ≡ true → b ≡ false
+not_true true e = absurd (false≢true e)
+not_true false e = refl
 
 module _ (app : App) (s : State) (choice : Bool) where
-  -- the effect is a move alone
+  -- the effect is a move, and changes beside it no task and not the processor
   record IsMove (e : Effect) : Type 0 where
     to : Place
-    is : e ≡ noted app (unnoted (moved s to) ask.No)
+    tasks : e.state.tasks ≡ (moved s to).tasks
+    processor : e.state.processor ≡ (moved s to).processor
+    asks : e.ask ≡ ask.No
 
-  moves_by : (p : Place) (b : Block) (k : Kind) → only_moves k ≡ true → IsMove (effect_at app s choice p b k)
-  moves_by p b (kind.Work n) e = elim (cases_Bool (nat_lt (p.offset + 1) n)) [
-    | inl f ↦ record { to = place_at p.block (p.offset + 1); is = (rw f refl) }
-    | inr f ↦ record { to = place_at b.next 0; is = (rw f refl) }
-  ]
-  moves_by p b (kind.Choice other) e = record { to = place_at (if choice then b.next else other) 0; is = refl }
-  moves_by p b kind.Loop e = record {
-    to = place_at b.next 0;
-    is = ap (λ (a : Ask). noted app (record (unnoted (moved_to s b.next) ask.No) { ask = a })) (asked_no app (caller s.processor) kind.Loop);
+  -- a move alone
+  alone : (to : Place) (e : Effect) → e ≡ noted app (unnoted (moved s to) ask.No) → IsMove e
+  alone to e is = record {
+    to = to;
+    tasks = ap (λ (x : Effect). x.state.tasks) is;
+    processor = ap (λ (x : Effect). x.state.processor) is;
+    asks = ap (λ (x : Effect). x.ask) is;
   }
-  moves_by p b (kind.Call c) e = absurd (cc)
+
+  by_call : (b : Block) (k : Kind) (a : Answer) → IsAside (moved_to s b.next) a → IsMove (noted app (asks_as app (caller s.processor) k a))
+  by_call b k a h = record {
+    to = place_at b.next 0;
+    tasks = h.0.0;
+    processor = h.0.1;
+    asks = ap (asked_by app (caller s.processor) k) h.1 ∙ asked_no app (caller s.processor) k;
+  }
+
+  moves_by : (p : Place) (b : Block) (k : Kind) → leaves_tasks app s k ≡ true → IsMove (effect_at app s choice p b k)
+  moves_by p b (kind.Work n) e = elim (cases_Bool (nat_lt (p.offset + 1) n)) [
+    | inl f ↦ alone (place_at p.block (p.offset + 1)) _ (rw f refl)
+    | inr f ↦ alone (place_at b.next 0) _ (rw f refl)
+  ]
+  moves_by p b (kind.Choice other) e = alone (place_at (if choice then b.next else other) 0) _ refl
+  moves_by p b kind.Loop e = by_call b _ _ ((refl, refl), refl)
+  moves_by p b kind.CountUp e = by_call b _ _ (counted_aside app (moved_to s b.next) (caller s.processor))
+  moves_by p b (kind.Call (call.Lock l)) e = by_call b _ _ ((refl, refl), refl)
+  moves_by p b (kind.Call (call.Plain call.GetTaskId)) e = by_call b _ _ ((refl, refl), refl)
+  moves_by p b (kind.Call (call.Plain call.GetActiveApplicationMode)) e = by_call b _ _ ((refl, refl), refl)
+  moves_by p b (kind.Call (call.Task call.GetEvent t)) e = by_call b _ _ (get_event_aside app (moved_to s b.next) t.0)
+  moves_by p b (kind.Call (call.Task call.GetTaskState t)) e = by_call b _ _ ((refl, refl), refl)
+  moves_by p b (kind.Call (call.Alarm call.CancelAlarm a)) e = by_call b _ _ (cancel_alarm_aside app (moved_to s b.next) a.0)
+  moves_by p b (kind.Call (call.Alarm call.GetAlarm a)) e = by_call b _ _ (get_alarm_aside app (moved_to s b.next) a.0)
+  moves_by p b (kind.Call (call.Arm call.SetRelAlarm a i y)) e = by_call b _ _ (set_rel_alarm_aside app (moved_to s b.next) a.0 i y)
+  moves_by p b (kind.Call (call.Arm call.SetAbsAlarm a i y)) e = by_call b _ _ (set_abs_alarm_aside app (moved_to s b.next) a.0 i y)
+  moves_by p b (kind.Call (call.Plain call.TerminateTask)) e = absurd (cc)
+  moves_by p b (kind.Call (call.Plain call.Schedule)) e = absurd (cc)
+  moves_by p b (kind.Call (call.Task call.ActivateTask t)) e = absurd (cc)
+  moves_by p b (kind.Call (call.Task call.ChainTask t)) e = absurd (cc)
+  moves_by p b (kind.Call (call.Resource v r)) e = absurd (cc)
+  moves_by p b (kind.Call (call.SetEvent t m)) e = absurd (cc)
+  moves_by p b (kind.Call (call.Mask v m)) e = absurd (cc)
+  moves_by p b (kind.Call call.ShutdownOs) e = absurd (cc)
   moves_by p b kind.TaskEnd e = absurd (cc)
   moves_by p b kind.IsrEnd e = absurd (cc)
-  moves_by p b kind.CountUp e = absurd (cc)
-  moves_by p b (kind.Expire a) e = absurd (cc)
+  moves_by p b (kind.Expire a) e =
+      by_call b _ _ (expire_aside app (moved_to s b.next) a.0 (due_moved app s (place_at b.next 0) a.0 s.processor ∙ not_true (is_due_at (due (alarm_state s a.0)) (value_of app s a.0)) e))
 
-  moves : IsActive s.processor → only_moves (the_block app (here s).block.0).kind ≡ true → IsMove (effect app s choice)
+  moves : IsActive s.processor → leaves_tasks app s (the_block app (here s).block.0).kind ≡ true → IsMove (effect app s choice)
   unfolding effect
   moves active e = moves_from s.processor active where
     moves_from : (p : Processor) → IsActive p → IsMove (effect_by app s choice p)
@@ -94,13 +191,13 @@ module _ (i : Image) (s : State) (w : Well i.app s) where
   instructed_quietly : (choice : Bool) (r : Stepped) → IsActive s.processor → IsQuietHere i s → instructed i s choice ≡ Some r → KeepsTasks s r.state
   unfolding instructed
   instructed_quietly choice r active q is =
-      let m = moves i.app s choice active q.moves in
+      let m = moves i.app s choice active q.leaves in
       let known : Some (concluded i.app (effect i.app s choice) (outcome_of i.app (effect i.app s choice))) ≡ Some r =
       subst (λ (o : Option Site). option_map (concluded i.app (effect i.app s choice)) (formed_at i.app (effect i.app s choice) o) ≡ Some r) q.no_site is in
-      let alone : concluded i.app (effect i.app s choice) (outcome_of i.app (effect i.app s choice)) ≡ concluded i.app (noted i.app (unnoted (moved s m.to) ask.No)) Keep =
-      ap (λ (e : Effect). concluded i.app e (outcome_of i.app e)) m.is in
-      let after : r ≡ concluded i.app (noted i.app (unnoted (moved s m.to) ask.No)) Keep = cc in
-      subst (λ (n : Stepped). KeepsTasks s n.state) (sym after) (moves_on i.app s w m.to q.settled)
+      let keeps : concluded i.app (effect i.app s choice) (outcome_of i.app (effect i.app s choice)) ≡ concluded i.app (effect i.app s choice) Keep =
+      ap (λ (a : Ask). concluded i.app (effect i.app s choice) (outcome_by i.app (effect i.app s choice).state a)) m.asks in
+      let after : r ≡ concluded i.app (effect i.app s choice) Keep = cc in
+      subst (λ (n : Stepped). KeepsTasks s n.state) (sym after) (moves_on i.app s w m.to (effect i.app s choice).state m.tasks m.processor q.settled)
 
   silently : (r : Stepped) → Some (silent s) ≡ Some r → KeepsTasks s r.state
   silently r e = let same : silent s ≡ r = cc in subst (λ (n : Stepped). KeepsTasks s n.state) same (record { current = refl; tasks = λ t. refl })

@@ -1,9 +1,10 @@
 -- Steps after which a line of the trace shows of the tasks what the line before showed.
-use Rattle.std.specs.Prelude.{◌≡◌, ⊤, Bool, true, false, ℕ, None, is_some}
+use Rattle.std.specs.Prelude.{◌≡◌, ⊤, Bool, true, false, not, ℕ, None, is_some}
 use Rattle.osek_values.specs.declared.event.Event.{Event, TheVariants.{Run, Irq, Tick}}
 use Rattle.osek_standard.specs.declared.{app.App.{App}, block.Kind.{Kind}, state.{State.{State}, Processor.{Processor}}}
-use Rattle.osek_standard.specs.{Apps.{the_block}, TaskStates.{is_inside}, States.{here, nowhere, task_of, task_state}, Internal.{internal_of}, Effects.{task_at}}
+use Rattle.osek_standard.specs.{Apps.{the_block}, TaskStates.{is_inside}, States.{alarm_state, here, nowhere, task_of, task_state}, Internal.{internal_of}, Effects.{task_at}, Services.{due, is_due_at, value_of}}
 use Rattle.image_model.specs.{declared.image.Image.{Image}, ImageStep.{site_at}}
+use Rattle.image_model.specs.CallNames as call
 use Rattle.osek_standard.specs.declared.block.Kind.TheVariants as kind
 use Rattle.osek_standard.specs.declared.state.Processor.TheVariants as processor
 
@@ -12,12 +13,22 @@ pub record KeepsTasks (s r : State) : Type 0 where
   pub current : task_of r.processor ≡ task_of s.processor
   pub tasks : (t : ℕ) → task_at (task_state r t) nowhere ≡ task_at (task_state s t) nowhere
 
--- at a block of this kind an instruction only moves on
-abbrev pub only_moves : Kind → Bool
-only_moves (kind.Work n) = true
-only_moves (kind.Choice other) = true
-only_moves kind.Loop = true
-only_moves _ = false
+-- at a block of this kind an instruction leaves each task as it is but for its place, and asks for no rescheduling: an
+-- alarm that isn't due does nothing
+abbrev pub leaves_tasks : App → State → Kind → Bool
+leaves_tasks app s (kind.Work n) = true
+leaves_tasks app s (kind.Choice other) = true
+leaves_tasks app s kind.Loop = true
+leaves_tasks app s kind.CountUp = true
+leaves_tasks app s (kind.Call (call.Lock l)) = true
+leaves_tasks app s (kind.Call (call.Plain call.GetTaskId)) = true
+leaves_tasks app s (kind.Call (call.Plain call.GetActiveApplicationMode)) = true
+leaves_tasks app s (kind.Call (call.Task call.GetEvent t)) = true
+leaves_tasks app s (kind.Call (call.Task call.GetTaskState t)) = true
+leaves_tasks app s (kind.Call (call.Alarm v a)) = true
+leaves_tasks app s (kind.Call (call.Arm v a i y)) = true
+leaves_tasks app s (kind.Expire a) = not (is_due_at (due (alarm_state s a.0)) (value_of app s a.0))
+leaves_tasks app s _ = false
 
 -- the task that runs is inside where it names an INTERNAL resource, and at no other time
 abbrev pub IsSettled : App → State → Processor → Type 0
@@ -27,9 +38,9 @@ IsSettled app s (processor.Running t) = is_inside (task_state s t.0) ≡ is_some
 IsSettled app s (processor.Interrupted k over) = ⊤
 
 module _ (i : Image) (s : State) where
-  -- the instruction that is due, if one is, only moves on, at a block that is no site
+  -- the instruction that is due, if one is, leaves the tasks, at a block that is no site
   pub record IsQuietHere : Type 0 where
-    pub moves : only_moves (the_block i.app (here s).block.0).kind ≡ true
+    pub leaves : leaves_tasks i.app s (the_block i.app (here s).block.0).kind ≡ true
     pub no_site : site_at i (here s).block.0 ≡ None
     pub settled : IsSettled i.app s s.processor
 

@@ -1,19 +1,45 @@
 //! Steps after which a line of the trace shows of the tasks what the line before showed.
 ghost use Rattle.std.specs.Prelude.{◌≡◌, ◌<◌, length, true};
-ghost use Rattle.osek_standard.specs.{Apps.{the_block}, States.{here as here_of}, Well.{Well, IsActive}};
-ghost use Rattle.image_run.specs.Quiet.{IsQuietAt, IsQuietHere, IsSettled, only_moves as only_moves_at};
+ghost use Rattle.osek_standard.specs.{Apps.{tables, the_block}, States.{alarm_state, here as here_of}, Services.{due, is_due_at, value_of}, Validity.{NamesEntries}, Well.{Well, IsActive}};
+ghost use Rattle.image_run.specs.Quiet.{IsQuietAt, IsQuietHere, IsSettled, leaves_tasks as leaves_tasks_at};
 
 use generic_kernel::here;
 use image_model::{Image, site_at};
-use osek_standard::{App, Kind, Processor, State};
+use osek_standard::{AlarmState, App, Call, Kind, PlainService, Processor, State, TaskService};
+use osek_values::AlarmNo;
 
-/// Whether an instruction of this kind only moves on.
-fn only_moves(kind: Kind) -> bool
-    ensures { result ≡ only_moves_at kind }
+/// Whether an alarm is due.
+fn is_due(app: &App, state: &State, alarm: AlarmNo) -> bool
+    requires known { alarm.0 < length app.now.alarms }
+    requires well { Well app.now state.now }
+    ensures { result ≡ is_due_at (due (alarm_state state.now alarm.0)) (value_of app.now state.now alarm.0) }
+{
+    match state.alarm(alarm) {
+        AlarmState::Idle => false,
+        AlarmState::Armed { at, .. } => at == state.counter(app.alarm(alarm).counter),
+    }
+}
+
+/// Whether an instruction of this kind leaves each task as it is but for its place, and asks for no rescheduling.
+fn leaves_tasks(app: &App, state: &State, kind: Kind) -> bool
+    requires well { Well app.now state.now }
+    requires operands { NamesEntries (tables app.now) kind }
+    ensures { result ≡ leaves_tasks_at app.now state.now kind }
 {
     match kind {
-        Kind::Work(_) | Kind::Choice(_) | Kind::Loop => true,
-        Kind::Call(_) | Kind::TaskEnd | Kind::IsrEnd | Kind::CountUp | Kind::Expire(_) => false,
+        Kind::Work(_)
+        | Kind::Choice(_)
+        | Kind::Loop
+        | Kind::CountUp
+        | Kind::Call(
+            Call::Lock(_)
+            | Call::Plain(PlainService::GetTaskId | PlainService::GetActiveApplicationMode)
+            | Call::Task(TaskService::GetEvent | TaskService::GetTaskState, _)
+            | Call::Alarm(_, _)
+            | Call::Arm(_, _, _, _),
+        ) => true,
+        Kind::Expire(alarm) => !is_due(app, state, alarm),
+        Kind::Call(_) | Kind::TaskEnd | Kind::IsrEnd => false,
     }
 }
 
@@ -30,14 +56,14 @@ fn is_settled(app: &App, state: &State) -> bool
     }
 }
 
-/// Whether the instruction at the processor only moves on, at a block that is no site.
+/// Whether the instruction at the processor leaves the tasks, at a block that is no site.
 fn is_quiet_here(image: &Image, state: &State) -> bool
     requires well { Well image.now.app state.now }
     requires active { IsActive state.now.processor }
     ensures { result ≡ true → IsQuietHere image.now state.now }
 {
     let block = here(&image.app, state).block;
-    only_moves(image.app.block(block).kind)
+    leaves_tasks(&image.app, state, image.app.block(block).kind)
         && site_at(image, block).is_none()
         && is_settled(&image.app, state)
 }
