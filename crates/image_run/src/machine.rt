@@ -107,7 +107,8 @@ impl Machine {
     }
 
     /// Whether the next step is known to change of no task more than its place, and to leave who runs or is interrupted: a
-    /// source latches, a routine begins, or an instruction only moves on. It may say no where that is so.
+    /// source latches, a routine begins, or an instruction moves on and changes at most counters and alarms beside. It may say
+    /// no where that is so.
     pub fn is_quiet(&self, event: Event) -> bool
         requires { IsDeclared self.now.image.app event }
         ensures { (r : Stepped) → result ≡ true → image_step_of self.now.image self.now.state event ≡ Some r → KeepsTasks self.now.state r.state }

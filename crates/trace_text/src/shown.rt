@@ -77,6 +77,7 @@ fn are_same(stack: &[ResNo], other: &[ResNo]) -> bool
 }
 
 // Most tasks hold nothing.
+#[inline(always)]
 fn holds_as(stack: &Held, other: &Held) -> bool
     ensures { result ≡ true → stack.now ≡ other.now }
 {
@@ -94,6 +95,7 @@ fn is_bare(shown: &Shown) -> bool
 }
 
 // Whether of a Live task this is shown, but for the letter and the events.
+#[inline(always)]
 fn is_live_as_shown(shown: &Shown, standing: &Standing) -> bool
     ensures { result ≡ true → shown.now ≡ record { letter = shown.now.letter; further = standing.now.further; events = shown.now.events; inside = standing.now.inside; stack = standing.now.held } }
 {
