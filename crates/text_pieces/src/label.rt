@@ -61,6 +61,7 @@ impl Default for Label {
 }
 
 /// Puts a label.
+#[inline(always)]
 pub fn put_label(buf: &mut [u8], at: usize, label: &Label) -> usize
     requires room { at + LABEL_ROOM ≤ length buf.old }
     ensures text { take result buf.new ≡ take at buf.old ++ label.now }

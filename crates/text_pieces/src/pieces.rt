@@ -56,8 +56,7 @@ pub fn put_prefix(buf: &mut [u8], at: usize, piece: &[u8], size: usize) -> usize
 // Digits are made at the front of twice the room that they may need, the last one first, and put with what stands
 // behind them: the copy has a constant size.
 
-/// Puts a number in decimal.
-pub fn put_decimal(buf: &mut [u8], at: usize, n: u64) -> usize
+fn put_digits(buf: &mut [u8], at: usize, n: u64) -> usize
     requires room { at + MAX_DECIMAL ≤ length buf.old }
     ensures text { take result buf.new ≡ take at buf.old ++ decimal n }
     ensures most { result ≤ at + MAX_DECIMAL }
@@ -70,6 +69,22 @@ pub fn put_decimal(buf: &mut [u8], at: usize, n: u64) -> usize
         &digits[first..first + MAX_DECIMAL],
         MAX_DECIMAL - first,
     )
+}
+
+/// Puts a number in decimal. Most have one digit or two.
+pub fn put_decimal(buf: &mut [u8], at: usize, n: u64) -> usize
+    requires room { at + MAX_DECIMAL ≤ length buf.old }
+    ensures text { take result buf.new ≡ take at buf.old ++ decimal n }
+    ensures most { result ≤ at + MAX_DECIMAL }
+{
+    if n < 10 {
+        return put_byte(buf, at, b'0' + n as u8);
+    }
+    if n < 100 {
+        let at = put_byte(buf, at, b'0' + (n / 10) as u8);
+        return put_byte(buf, at, b'0' + (n % 10) as u8);
+    }
+    put_digits(buf, at, n)
 }
 
 fn hexadecimal_digit(digit: u64) -> u8
