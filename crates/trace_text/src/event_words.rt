@@ -116,6 +116,7 @@ fn event_of(app: &App, verb: &[u8], operand: &[u8]) -> Result<Option<Event>, Eve
     Err(EventFault::E1)
 }
 
+// A call of its own, so that `read_event` is short enough to stand in the loop over the lines.
 #[inline(never)]
 fn event_in(app: &App, line: &[u8]) -> Result<Option<Event>, EventFault>
     ensures { result ≡ said app.now (words line.now) }
