@@ -1,9 +1,9 @@
 -- Words of bits: those that other words have too, and words without a bit.
-use Rattle.std.proofs.Common.{◌≡◌, ◌≢◌, ℕ, zero, suc, ◌/◌, ◌%◌, ◌^◌, ◌<◌, ◌≤◌, Bool, ◌&&◌, List, [], ◌∷◌, length, get_or, refl, sym, ap, ap₂, ◌∙◌, inl, inr, arith, min}
-use Rattle.std.specs.{Prelude.{◌==◌, bit_and}, Int.{bit_at}}
+use Rattle.std.proofs.Common.{◌≡◌, ◌≢◌, ℕ, zero, suc, ◌/◌, ◌%◌, ◌^◌, ◌<◌, ◌≤◌, Bool, true, false, ◌&&◌, ◌||◌, List, [], ◌∷◌, length, get_or, refl, sym, ap, ap₂, ◌∙◌, inl, inr, arith, min}
+use Rattle.std.specs.{Prelude.{◌==◌, bit_and, bit_or}, Int.{bit_at}}
 use Rattle.std.proofs.lemmas.{Bool.{cases_lt}, List.Elements.{All-from_get_or}, Nat.{and_le_l, Bits.{bit_at_and, bit_at-lt}}}
 use Rattle.bit_words.specs.Words.{AreWords, bits_of_words}
-use Rattle.bit_words.proofs.{BitCounts.{same_bits}, WordLaws.{word_has, number_at, number_past, small_at, has_of_words}}
+use Rattle.bit_words.proofs.{BitCounts.{same_bits, has_either}, WordLaws.{word_has, number_at, number_past, small_at, has_of_words}}
 use Rattle.osek_values.specs.Bits.{has_bit}
 
 -- a bit of both words
@@ -18,6 +18,15 @@ both_at (suc (suc a)) b h k = absurd (omega (arith, h))
 
 pub has_both : (a b k : ℕ) → has_bit (bit_and a b) k ≡ (has_bit a k && has_bit b k)
 has_both a b k = ap (λ n. n == 1) (bit_at_and a b k) ∙ both_at (bit_at a k) (bit_at b k) (bit_at-lt a k) (bit_at-lt b k)
+
+-- a number all of whose bits the other has is kept whole
+pub kept_whole : (m n : ℕ) → n ≡ bit_or n m → bit_and m n ≡ m
+kept_whole m n has = same_bits (bit_and m n) m (λ k. has_both m n k ∙ within (has_bit m k) (has_bit n k) (ap (λ (i : ℕ). has_bit i k) has ∙ has_either n m k))
+  where
+    within : (a b : Bool) → b ≡ (b || a) → (a && b) ≡ a
+    within false b e = refl
+    within true true e = refl
+    within true false e = absurd (cc)
 
 -- words of which those up to a place were cut to the bits of the others
 pub record AreKeptUpTo (before other : List ℕ) (k : ℕ) (now : List ℕ) : Type 0 where

@@ -32,6 +32,23 @@ ones_grow a b lt less =
     let more = passing_grows (has_bit a) (has_bit (bit_or a b)) 64 (λ k _. bits_grow a b k) in
     omega (arith, more, ones_below a 64 lt, ones_below (bit_or a b) 64 (or_lt 64 a b lt less))
 
+below_power : (n : ℕ) → n < 2 ^ n
+below_power zero = omega arith
+below_power (suc n) = omega (arith, below_power n, pow-suc 2 n)
+
+-- a number all of whose bits another has, has no more of them
+pub ones_within : (m n : ℕ) → n ≡ bit_or n m → count_ones m ≤ count_ones n
+ones_within m n all =
+    let w = m + n in
+    let power = below_power w in
+    let has : (k : ℕ) → has_bit m k ≡ true → has_bit n k ≡ true = λ k e. ap (λ (i : ℕ). has_bit i k) all ∙ has_either n m k ∙ ap (λ (b : Bool). has_bit n k || b) e ∙ or_true (has_bit n k) in
+    let more = passing_grows (has_bit m) (has_bit n) w (λ k _. has k) in
+    omega (arith, more, ones_below m w (omega (arith, power)), ones_below n w (omega (arith, power)))
+  where
+    or_true : (b : Bool) → (b || true) ≡ true
+    or_true true = refl
+    or_true false = refl
+
 pub ones_of_either : (a b : ℕ) → a < 2 ^ 64 → b < 2 ^ 64 → count_ones (bit_or a b) ≤ count_ones a + count_ones b
 ones_of_either a b lt less =
     let few = passing_or (has_bit a) (has_bit b) (has_bit (bit_or a b)) 64 (λ k _. has_either a b k) in
@@ -236,6 +253,10 @@ bits_joined ws us vs small its too h = same_bits (bits_of_words vs) (bit_or (bit
     has_of_words vs n too ∙ h n ∙ sym (has_either (bits_of_words ws) (bits_of_words us) n ∙ ap₂ (λ (a b : Bool). a || b) (has_of_words ws n small) (has_of_words us n its)))
 
 -- a word in the place of another
+-- words that have all bits of others
+pub all_there : (ws us : List ℕ) → AreWords ws → AreWords us → ((i : ℕ) → i < length us → get_or ws i 0 ≡ bit_or (get_or ws i 0) (get_or us i 0)) → bits_of_words ws ≡ bit_or (bits_of_words ws) (bits_of_words us)
+all_there ws us small its each = bits_joined ws us ws small its small (all_joined ws us ws (length us) 0 (omega arith) (nothing_new ws us each))
+
 pub words_with : (ws : List ℕ) (k w : ℕ) → AreWords ws → w < 2 ^ 64 → AreWords (set ws k w)
 words_with ws k w small lt = All-set (λ v. v < 2 ^ 64) ws k w lt small
 

@@ -3,5 +3,8 @@
 #![tactic(auto)]
 
 pub mod further;
+pub mod shared_words;
 pub mod split_words;
 pub mod words;
+
+pub use shared_words::SharedWords;

@@ -65,6 +65,22 @@ pub fn trim(words: &mut Vec<u64>)
     }
 }
 
+/// Clears the bits that other words lack, and takes off the words without a bit at the end.
+pub fn keep_trimmed(words: &mut Vec<u64>, other: &[u64])
+    ensures { bits_of_words words.new.items ≡ bit_and (bits_of_words words.old.items) (bits_of_words other.now) }
+{
+    keep(words.as_mut_slice(), other);
+    trim(words);
+}
+
+/// Clears the bits that other words have, and takes off the words without a bit at the end.
+pub fn leave_out_trimmed(words: &mut Vec<u64>, other: &[u64])
+    ensures { bits_of_words words.new.items ≡ bit_xor (bits_of_words words.old.items) (bit_and (bits_of_words words.old.items) (bits_of_words other.now)) }
+{
+    leave_out(words.as_mut_slice(), other);
+    trim(words);
+}
+
 /// Sets a number's bit.
 pub fn put(words: &mut [u64], number: usize)
     requires { number / 64 < length words.old }
@@ -175,12 +191,17 @@ pub fn join(words: &mut [u64], other: &[u64]) -> u64
     join_each(words, other)
 }
 
-// Whether each bit of other words is set. Most joins bring nothing new: the bits that these words lack are gathered in one, which
-// takes half the instructions that a look at each word takes.
-fn have_all(words: &[u64], other: &[u64]) -> bool
-    requires { length other.now ≤ length words.now }
-    ensures { OnTrue result ((i : ℕ) → i < length other.now → slice_index_or words.now i 0 ≡ bit_or (slice_index_or words.now i 0) (slice_index_or other.now i 0)) }
+/// Whether each bit of other words is set. Most joins bring nothing new: the bits that these words lack are gathered in one, which
+/// takes half the instructions that a look at each word takes.
+pub fn have_all(words: &[u64], other: &[u64]) -> bool
+    ensures bits { OnTrue result (bits_of_words words.now ≡ bit_or (bits_of_words words.now) (bits_of_words other.now)) }
+    ensures words { OnTrue result ((i : ℕ) → i < length other.now → slice_index_or words.now i 0 ≡ bit_or (slice_index_or words.now i 0) (slice_index_or other.now i 0)) }
 {
+    are_words(words);
+    are_words(other);
+    if other.len() > words.len() {
+        return false;
+    }
     let mut missing = 0;
     for place in 0..other.len() {
         missing = missing | without(other[place], words[place]);
@@ -188,8 +209,8 @@ fn have_all(words: &[u64], other: &[u64]) -> bool
     missing == 0
 }
 
-// the same, a word after the other
-fn join_each(words: &mut [u64], other: &[u64]) -> u64
+/// The same where some bit is known to be new.
+pub fn join_each(words: &mut [u64], other: &[u64]) -> u64
     requires room { length other.now ≤ length words.old }
     requires few { count_ones (bits_of_words other.now) < 2 ^ 64 }
     ensures words { (i : ℕ) → slice_index_or words.new i 0 ≡ bit_or (slice_index_or words.old i 0) (slice_index_or other.now i 0) }
@@ -238,15 +259,6 @@ pub fn clear_words(alloc: Global, count: usize) -> Result<Vec<u64>, Memory>
     Ok(Vec::from_elem(alloc, 0, count)?)
 }
 
-/// Makes the bits those of other words. Where memory is wanted they stay what they were.
-pub fn assign(words: &mut Vec<u64>, other: &[u64]) -> Result<(), Memory>
-    ensures bits { OnOk result (bits_of_words words.new.items ≡ bits_of_words other.now) }
-    ensures err { OnErr result (bits_of_words words.new.items ≡ bits_of_words words.old.items) }
-{
-    *words = copied(*words.allocator(), other)?;
-    Ok(())
-}
-
 /// The word at a place; past the end it is 0.
 pub fn word_at(words: &[u64], place: usize) -> u64
     ensures word { result ≡ slice_index_or words.now place 0 }
@@ -261,6 +273,26 @@ pub fn replace(words: &mut [u64], place: usize, word: u64)
 {
     if place < words.len() {
         words[place] = word;
+    }
+}
+
+/// Clears the bits of the word at a place that another one lacks.
+pub fn keep_at(words: &mut [u64], place: usize, other: u64)
+    ensures word { words.new ≡ slice_set words.old place (bit_and (slice_index_or words.old place 0) other) }
+    ensures fits { slice_index_or words.old place 0 < 2 ^ 64 }
+{
+    if place < words.len() {
+        words[place] = words[place] & other;
+    }
+}
+
+/// Clears the bits of the word at a place that another one has.
+pub fn leave_out_at(words: &mut [u64], place: usize, other: u64)
+    ensures word { words.new ≡ slice_set words.old place (bit_xor (slice_index_or words.old place 0) (bit_and (slice_index_or words.old place 0) other)) }
+    ensures fits { slice_index_or words.old place 0 < 2 ^ 64 }
+{
+    if place < words.len() {
+        words[place] = without(words[place], other);
     }
 }
 

@@ -3,15 +3,15 @@ use Rattle.std.proofs.Common.{◌≡◌, ◌≢◌, ℕ, zero, suc, ◌+◌, ◌
 use Rattle.std.specs.{Prelude.{bit_or, count_ones}, Global.{Vec}}
 use Rattle.std.proofs.{Math.ListN.{get_or-eq_default}, lemmas.Bool.{cases_eq, cases_lt}}
 use Rattle.std.specs.Vec.{with_items}
-use Rattle.std.proofs.lemmas.{List.{length-set, set-get_or, with_items_is, Sums.{sum_by-cons}, Elements.{All-head, All-tail, All-from_get_or}}, Nat.{or_lt, ones_le_self}}
+use Rattle.std.proofs.lemmas.{List.{length-set, set-get_or, with_items_is, Sums.{sum_by-cons}, Elements.{All-head, All-tail, All-from_get_or}}, Nat.{or_lt}}
 use Rattle.bit_words.specs.{Words.{bits_of_words, AreWords}, Further.{further_at, further_bits, further_count}}
-use Rattle.bit_words.proofs.{WordLaws.{small_at}, FirstWords.{word_first, same_further, ones_first, ones_of_two, either_two, none_first, bits_of_none}}
+use Rattle.bit_words.proofs.{WordLaws.{small_at}, FirstWords.{word_first, same_further, ones_first, ones_of_two, either_two, none_first, bits_of_none}, FurtherLaws.{none_counted, further_past}}
 use Rattle.abstract_state.specs.declared.value.Domain.{Domain}
 use Rattle.abstract_state.specs.declared.value.Domain.TheVariants as domain
 use Rattle.numbered_sets.specs.{Numbers.{Numbers, numbers, joined_numbers, number_count}, SetLists.{set_of, all_numbers, AreJoinedSets}, FlatSets.{words_at, flat_sets}}
 use Rattle.numbered_sets.proofs.NumberLattice.{same_sets}
 
-pub flat_length : (ds : List Domain) (low high : List ℕ) (more : List (Vec ℕ)) → length (flat_sets ds low high more) ≡ length ds
+pub flat_length : (ds : List Domain) (low high : List ℕ) (more : List (List ℕ)) → length (flat_sets ds low high more) ≡ length ds
 unfolding flat_sets
 flat_length [] low high more = refl
 flat_length (d ∷ ds) low high more = (let rest = flat_length ds (drop 1 low) (drop 1 high) (drop 1 more) in omega (arith, rest))
@@ -20,27 +20,24 @@ word_later : (xs : List ℕ) (c : ℕ) → get_or (drop 1 xs) c 0 ≡ get_or xs 
 word_later [] c = refl
 word_later (x ∷ xs) c = refl
 
-further_later : (more : List (Vec ℕ)) (c : ℕ) → further_at (drop 1 more) c ≡ further_at more (suc c)
+further_later : (more : List (List ℕ)) (c : ℕ) → further_at (drop 1 more) c ≡ further_at more (suc c)
 further_later [] c = refl
 further_later (v ∷ vs) c = refl
 
-words_later : (low high : List ℕ) (more : List (Vec ℕ)) (c : ℕ) → words_at (drop 1 low) (drop 1 high) (drop 1 more) c ≡ words_at low high more (suc c)
+words_later : (low high : List ℕ) (more : List (List ℕ)) (c : ℕ) → words_at (drop 1 low) (drop 1 high) (drop 1 more) c ≡ words_at low high more (suc c)
 words_later low high more c =
     ap₂ (λ (a b : ℕ). a ∷ b ∷ further_at (drop 1 more) c) (word_later low c) (word_later high c)
     ∙ ap (λ (ws : List ℕ). get_or low (suc c) 0 ∷ get_or high (suc c) 0 ∷ ws) (further_later more c)
 
-pub flat_at : (ds : List Domain) (low high : List ℕ) (more : List (Vec ℕ)) (c : ℕ) → c < length ds → set_of (flat_sets ds low high more) c ≡ numbers (get_or ds c domain.Alarm) (bits_of_words (words_at low high more c))
+pub flat_at : (ds : List Domain) (low high : List ℕ) (more : List (List ℕ)) (c : ℕ) → c < length ds → set_of (flat_sets ds low high more) c ≡ numbers (get_or ds c domain.Alarm) (bits_of_words (words_at low high more c))
 unfolding flat_sets
 flat_at [] low high more c lt = absurd (omega (arith, lt))
 flat_at (d ∷ ds) low high more zero lt = refl
 flat_at (d ∷ ds) low high more (suc c) lt =
     flat_at ds (drop 1 low) (drop 1 high) (drop 1 more) c (omega (arith, lt)) ∙ ap (λ (ws : List ℕ). numbers (get_or ds c domain.Alarm) (bits_of_words ws)) (words_later low high more c)
 
-none_counted : count_ones (bits_of_words []) ≡ 0
-none_counted = (let few = ones_le_self (bits_of_words []) in let none = bits_of_none [] refl in omega (arith, few, none))
-
 -- how many numbers there are in all
-pub flat_count : (ds : List Domain) (low high : List ℕ) (more : List (Vec ℕ)) → length low ≡ length ds → length high ≡ length ds → length more ≤ length ds → AreWords low → AreWords high
+pub flat_count : (ds : List Domain) (low high : List ℕ) (more : List (List ℕ)) → length low ≡ length ds → length high ≡ length ds → length more ≤ length ds → AreWords low → AreWords high
     → all_numbers (flat_sets ds low high more) ≡ count_ones (bits_of_words low) + count_ones (bits_of_words high) + further_count more
 unfolding flat_sets bits_of_words
 flat_count [] [] [] [] e f le small too =
@@ -63,9 +60,9 @@ flat_count (d ∷ ds) (l ∷ ls) (h ∷ hs) (v ∷ vs) e f le small too =
     let fits : l < 2 ^ 64 = All-head (λ w. w < 2 ^ 64) l ls small in
     let fits_too : h < 2 ^ 64 = All-head (λ w. w < 2 ^ 64) h hs too in
     let rest = flat_count ds ls hs vs (omega (arith, e)) (omega (arith, f)) (omega (arith, le)) (All-tail (λ w. w < 2 ^ 64) l ls small) (All-tail (λ w. w < 2 ^ 64) h hs too) in
-    let first = ones_of_two l h v.items fits fits_too in
-    let further = sum_by-cons (λ (x : Vec ℕ). count_ones (bits_of_words x.items)) v vs in
-    omega (arith, sum_by-cons number_count (numbers d (bits_of_words (l ∷ h ∷ v.items))) (flat_sets ds ls hs vs), rest, first, further, ones_first l ls fits, ones_first h hs fits_too)
+    let first = ones_of_two l h v fits fits_too in
+    let further = sum_by-cons (λ (x : List ℕ). count_ones (bits_of_words x)) v vs in
+    omega (arith, sum_by-cons number_count (numbers d (bits_of_words (l ∷ h ∷ v))) (flat_sets ds ls hs vs), rest, first, further, ones_first l ls fits, ones_first h hs fits_too)
 
 -- no number
 pub flat_none : (ds : List Domain) → flat_sets ds (replicate (length ds) 0) (replicate (length ds) 0) [] ≡ map (λ d. numbers d 0) ds
@@ -75,13 +72,13 @@ flat_none (d ∷ ds) =
     let none : bits_of_words (0 ∷ 0 ∷ []) ≡ 0 = none_first 0 (0 ∷ []) refl (none_first 0 [] refl (bits_of_none [] refl)) in
     ap₂ (λ (m : ℕ) (xs : List Numbers). numbers d m ∷ xs) none (flat_none ds)
 
-pub flat_made : (ds es : List Domain) (low high : List ℕ) (more : List (Vec ℕ)) → es ≡ ds → low ≡ replicate (length ds) 0 → high ≡ replicate (length ds) 0 → more ≡ [] → flat_sets es low high more ≡ map (λ d. numbers d 0) ds
+pub flat_made : (ds es : List Domain) (low high : List ℕ) (more : List (List ℕ)) → es ≡ ds → low ≡ replicate (length ds) 0 → high ≡ replicate (length ds) 0 → more ≡ [] → flat_sets es low high more ≡ map (λ d. numbers d 0) ds
 flat_made ds es low high more domains first second none =
     ap (λ (fs : List Domain). flat_sets fs low high more) domains ∙ ap₂ (λ (ls hs : List ℕ). flat_sets ds ls hs more) first second
     ∙ ap (flat_sets ds (replicate (length ds) 0) (replicate (length ds) 0)) none ∙ flat_none ds
 
 -- words with the same bits mean the same
-pub flat_same : (ds : List Domain) (low high low_too high_too : List ℕ) (more more_too : List (Vec ℕ)) → ((c : ℕ) → bits_of_words (words_at low high more c) ≡ bits_of_words (words_at low_too high_too more_too c))
+pub flat_same : (ds : List Domain) (low high low_too high_too : List ℕ) (more more_too : List (List ℕ)) → ((c : ℕ) → bits_of_words (words_at low high more c) ≡ bits_of_words (words_at low_too high_too more_too c))
     → flat_sets ds low high more ≡ flat_sets ds low_too high_too more_too
 flat_same ds low high low_too high_too more more_too same =
     same_sets (flat_sets ds low high more) (flat_sets ds low_too high_too more_too) (flat_length ds low high more ∙ sym (flat_length ds low_too high_too more_too)) (λ c. elim (cases_lt c (length ds)) [
@@ -89,18 +86,18 @@ flat_same ds low high low_too high_too more more_too same =
       | inr le ↦ past ds low high more c le ∙ sym (past ds low_too high_too more_too c le)
     ])
   where
-    past : (ds : List Domain) (low high : List ℕ) (more : List (Vec ℕ)) (c : ℕ) → length ds ≤ c → set_of (flat_sets ds low high more) c ≡ numbers domain.Alarm 0
+    past : (ds : List Domain) (low high : List ℕ) (more : List (List ℕ)) (c : ℕ) → length ds ≤ c → set_of (flat_sets ds low high more) c ≡ numbers domain.Alarm 0
     past ds low high more c le = get_or-eq_default (flat_sets ds low high more) (numbers domain.Alarm 0) (let long = flat_length ds low high more in omega (arith, long, le))
 
-pub same_words_further : (low high : List ℕ) (more after : List (Vec ℕ)) (c : ℕ) → further_bits after c ≡ further_bits more c → bits_of_words (words_at low high after c) ≡ bits_of_words (words_at low high more c)
+pub same_words_further : (low high : List ℕ) (more after : List (List ℕ)) (c : ℕ) → further_bits after c ≡ further_bits more c → bits_of_words (words_at low high after c) ≡ bits_of_words (words_at low high more c)
 same_words_further low high more after c same = same_further (get_or low c 0) (get_or high c 0) (further_at more c) (further_at after c) same
 
-pub flat_same_further : (ds : List Domain) (low high : List ℕ) (more after : List (Vec ℕ)) → ((c : ℕ) → further_bits after c ≡ further_bits more c) → flat_sets ds low high after ≡ flat_sets ds low high more
+pub flat_same_further : (ds : List Domain) (low high : List ℕ) (more after : List (List ℕ)) → ((c : ℕ) → further_bits after c ≡ further_bits more c) → flat_sets ds low high after ≡ flat_sets ds low high more
 flat_same_further ds low high more after same = flat_same ds low high low high after more (λ c. same_words_further low high more after c (same c))
 
 -- ---- the sets that words mean
 
-module _ (ds : List Domain) (low high : List ℕ) (more : List (Vec ℕ)) (xs : List Numbers) (is : flat_sets ds low high more ≡ xs) where
+module _ (ds : List Domain) (low high : List ℕ) (more : List (List ℕ)) (xs : List Numbers) (is : flat_sets ds low high more ≡ xs) where
   pub as_many : length xs ≡ length ds
   as_many = ap length (sym is) ∙ flat_length ds low high more
 
@@ -117,14 +114,9 @@ module _ (ds : List Domain) (low high : List ℕ) (more : List (Vec ℕ)) (xs : 
     | inr past ↦
         (let none : bits_of_words (words_at low high more c) ≡ 0 =
         none_first (get_or low c 0) (get_or high c 0 ∷ further_at more c) (get_or-eq_default low 0 (omega (arith, e, past)))
-        (none_first (get_or high c 0) (further_at more c) (get_or-eq_default high 0 (omega (arith, f, past))) (bits_of_none (further_at more c) (no_words more c (omega (arith, le, past))))) in
+        (none_first (get_or high c 0) (further_at more c) (get_or-eq_default high 0 (omega (arith, f, past))) (bits_of_none (further_at more c) (ap length (further_past more c (omega (arith, le, past)))))) in
         none ∙ sym (ap (λ (x : Numbers). x.bits) (get_or-eq_default xs (numbers domain.Alarm 0) (let many = as_many in omega (arith, many, past)))))
   ]
-    where
-      no_words : (vs : List (Vec ℕ)) (k : ℕ) → length vs ≤ k → length (further_at vs k) ≡ 0
-      no_words [] k le = refl
-      no_words (v ∷ vs) zero le = absurd (omega (arith, le))
-      no_words (v ∷ vs) (suc k) le = no_words vs k (omega (arith, le))
 
   -- a component's words as they are read
   pub read_is : length low ≡ length ds → length high ≡ length ds → length more ≤ length ds → (c a b : ℕ) (ls hs ws : List ℕ) → ls ≡ low → hs ≡ high → a ≡ get_or ls c 0 → b ≡ get_or hs c 0 → ws ≡ further_at more c
@@ -134,7 +126,7 @@ module _ (ds : List Domain) (low high : List ℕ) (more : List (Vec ℕ)) (xs : 
       ∙ ap (λ (us : List ℕ). bits_of_words (get_or low c 0 ∷ get_or high c 0 ∷ us)) third ∙ bits_are e f le c
 
   -- the words of one component change
-  pub flat_changed : (c x : ℕ) (low_new high_new : List ℕ) (more_new : List (Vec ℕ)) → c < length xs → ((k : ℕ) → k ≢ c → bits_of_words (words_at low_new high_new more_new k) ≡ bits_of_words (words_at low high more k))
+  pub flat_changed : (c x : ℕ) (low_new high_new : List ℕ) (more_new : List (List ℕ)) → c < length xs → ((k : ℕ) → k ≢ c → bits_of_words (words_at low_new high_new more_new k) ≡ bits_of_words (words_at low high more k))
       → bits_of_words (words_at low_new high_new more_new c) ≡ x → flat_sets ds low_new high_new more_new ≡ set xs c (numbers (set_of xs c).domain x)
   flat_changed c x low_new high_new more_new lt others here =
       let many = as_many in
@@ -156,7 +148,7 @@ module _ (ds : List Domain) (low high : List ℕ) (more : List (Vec ℕ)) (xs : 
       ])
 
   -- the first two words of one component become others, and its further ones may change
-  pub flat_put : (c l h x : ℕ) (low_new high_new : List ℕ) (more_new : List (Vec ℕ)) → low_new ≡ set low c l → high_new ≡ set high c h → length low ≡ length ds → length high ≡ length ds → c < length xs
+  pub flat_put : (c l h x : ℕ) (low_new high_new : List ℕ) (more_new : List (List ℕ)) → low_new ≡ set low c l → high_new ≡ set high c h → length low ≡ length ds → length high ≡ length ds → c < length xs
       → ((k : ℕ) → k ≢ c → further_bits more_new k ≡ further_bits more k) → bits_of_words (l ∷ h ∷ further_at more_new c) ≡ x → flat_sets ds low_new high_new more_new ≡ set xs c (numbers (set_of xs c).domain x)
   flat_put c l h x low_new high_new more_new lows highs e f lt others here =
       let many = as_many in
@@ -191,25 +183,7 @@ pub words_joined : (before other now : List ℕ) → AreWords before → AreWord
 words_joined before other now small too joined =
     All-from_get_or (λ w. w < 2 ^ 64) now 0 (λ i lt. subst (λ w. w < 2 ^ 64) (sym (joined i)) (or_lt 64 (get_or before i 0) (get_or other i 0) (small_at before i small) (small_at other i too)))
 
--- bits that are the same are as many
-pub further_as_many : (xs ys : List (Vec ℕ)) → ((k : ℕ) → further_bits xs k ≡ further_bits ys k) → further_count xs ≡ further_count ys
-further_as_many [] [] same = refl
-further_as_many [] (y ∷ ys) same =
-    let rest = further_as_many [] ys (λ k. same (suc k)) in
-    let first : count_ones (bits_of_words []) ≡ count_ones (bits_of_words y.items) = ap count_ones (same 0) in
-    let none = none_counted in
-    omega (arith, rest, first, none, sum_by-cons (λ (v : Vec ℕ). count_ones (bits_of_words v.items)) y ys)
-further_as_many (x ∷ xs) [] same =
-    let rest = further_as_many xs [] (λ k. same (suc k)) in
-    let first : count_ones (bits_of_words x.items) ≡ count_ones (bits_of_words []) = ap count_ones (same 0) in
-    let none = none_counted in
-    omega (arith, rest, first, none, sum_by-cons (λ (v : Vec ℕ). count_ones (bits_of_words v.items)) x xs)
-further_as_many (x ∷ xs) (y ∷ ys) same =
-    let rest = further_as_many xs ys (λ k. same (suc k)) in
-    let first : count_ones (bits_of_words x.items) ≡ count_ones (bits_of_words y.items) = ap count_ones (same 0) in
-    omega (arith, rest, first, sum_by-cons (λ (v : Vec ℕ). count_ones (bits_of_words v.items)) x xs, sum_by-cons (λ (v : Vec ℕ). count_ones (bits_of_words v.items)) y ys)
-
-module _ (ds its : List Domain) (low high low_too high_too low_new high_new : List ℕ) (more more_too more_new : List (Vec ℕ)) (xs ys : List Numbers)
+module _ (ds its : List Domain) (low high low_too high_too low_new high_new : List ℕ) (more more_too more_new : List (List ℕ)) (xs ys : List Numbers)
     (is : flat_sets ds low high more ≡ xs) (is_too : flat_sets its low_too high_too more_too ≡ ys) where
   pub flat_joined : length xs ≡ length ys → AreWords low → AreWords high → AreWords low_too → AreWords high_too → AreWordsJoined low low_too low_new → AreWordsJoined high high_too high_new
       → ((k : ℕ) → further_bits more_new k ≡ bit_or (further_bits more k) (further_bits more_too k)) → AreJoinedSets xs ys (flat_sets ds low_new high_new more_new)

@@ -4,7 +4,7 @@ ghost use Rattle.abstract_state.specs.declared.value.Domain.{Domain};
 
 use crate::numbered_set::NumberedSet;
 use abstract_state::Domain;
-use bit_words::{further, split_words, words};
+use bit_words::{SharedWords, further, split_words, words};
 use osek_values::{Memory, Seq};
 use std::alloc::Global;
 use std::marker::Model;
@@ -19,7 +19,7 @@ pub struct NumberedSets {
     pub(crate) low: Vec<u64>,
     pub(crate) high: Vec<u64>,
     // empty as long as no number is past the first 128
-    pub(crate) more: Seq<Vec<u64>>,
+    pub(crate) more: Seq<SharedWords>,
 }
 
 impl Model for NumberedSets {
@@ -148,109 +148,64 @@ impl NumberedSets {
         true
     }
 
-    /// Puts a number in a component's set, and tells whether it is new there.
-    pub fn insert(&mut self, component: usize, number: usize) -> Result<bool, Memory>
+    /// Leaves out the numbers of a component that another set lacks.
+    pub fn keep(&mut self, component: usize, other: &NumberedSet) -> Result<(), Memory>
         requires { component < length self.old }
-        ensures is_new { IfOk result (λ is_new. is_new ≡ not (has_number (set_of self.old component) number)) }
-        ensures sets { OnOk result (self.new ≡ slice_set self.old component (with_number (set_of self.old component) number)) }
+        ensures sets { OnOk result (self.new ≡ slice_set self.old component (kept_numbers (set_of self.old component) other.now)) }
         ensures err { OnErr result (self.new ≡ self.old) }
     {
-        if self.has(component, number) {
-            return Ok(false);
+        if component < self.more.len() {
+            return self.keep_further(component, other);
         }
-        self.put_number(component, number)?;
-        Ok(true)
-    }
-
-    fn put_number(&mut self, component: usize, number: usize) -> Result<(), Memory>
-        requires { component < length self.old }
-        ensures sets { OnOk result (self.new ≡ slice_set self.old component (with_number (set_of self.old component) number)) }
-        ensures err { OnErr result (self.new ≡ self.old) }
-    {
-        if number < 64 {
-            self.put_low(component, number);
-            return Ok(());
-        }
-        if number < 128 {
-            self.put_high(component, number);
-            return Ok(());
-        }
-        self.put_further(component, number)
-    }
-
-    fn put_low(&mut self, component: usize, number: usize)
-        requires known { component < length self.old }
-        requires low { number < 64 }
-        ensures { self.new ≡ slice_set self.old component (with_number (set_of self.old component) number) }
-    {
-        let low = words::word_at(self.low.as_slice(), component);
-        words::replace(
-            self.low.as_mut_slice(),
-            component,
-            words::with_bit(low, number),
-        );
-    }
-
-    fn put_high(&mut self, component: usize, number: usize)
-        requires known { component < length self.old }
-        requires high { 64 ≤ number }
-        requires low { number < 128 }
-        ensures { self.new ≡ slice_set self.old component (with_number (set_of self.old component) number) }
-    {
-        let _low = words::word_at(self.low.as_slice(), component);
-        let high = words::word_at(self.high.as_slice(), component);
-        words::replace(
-            self.high.as_mut_slice(),
-            component,
-            words::with_bit(high, number - 64),
-        );
-    }
-
-    fn put_further(&mut self, component: usize, number: usize) -> Result<(), Memory>
-        requires known { component < length self.old }
-        requires further { 128 ≤ number }
-        ensures sets { OnOk result (self.new ≡ slice_set self.old component (with_number (set_of self.old component) number)) }
-        ensures err { OnErr result (self.new ≡ self.old) }
-    {
-        let _low = words::word_at(self.low.as_slice(), component);
-        let _high = words::word_at(self.high.as_slice(), component);
-        let alloc = *self.low.allocator();
-        further::insert(alloc, &mut self.more, component, number - 128)?;
+        words::are_two_words(other.low, other.high);
+        words::keep_at(self.low.as_mut_slice(), component, other.low);
+        words::keep_at(self.high.as_mut_slice(), component, other.high);
         Ok(())
     }
 
-    /// Leaves out the numbers of a component that another set lacks.
-    pub fn keep(&mut self, component: usize, other: &NumberedSet)
+    // the same where the component may have further numbers
+    #[inline(never)]
+    fn keep_further(&mut self, component: usize, other: &NumberedSet) -> Result<(), Memory>
         requires { component < length self.old }
-        ensures { self.new ≡ slice_set self.old component (kept_numbers (set_of self.old component) other.now) }
+        ensures sets { OnOk result (self.new ≡ slice_set self.old component (kept_numbers (set_of self.old component) other.now)) }
+        ensures err { OnErr result (self.new ≡ self.old) }
     {
-        let low = words::word_at(self.low.as_slice(), component);
-        let high = words::word_at(self.high.as_slice(), component);
+        let alloc = *self.low.allocator();
+        further::keep(alloc, &mut self.more, component, other.more.as_slice())?;
         words::are_two_words(other.low, other.high);
-        words::replace(self.low.as_mut_slice(), component, low & other.low);
-        words::replace(self.high.as_mut_slice(), component, high & other.high);
-        further::keep(&mut self.more, component, other.more.as_slice());
+        words::keep_at(self.low.as_mut_slice(), component, other.low);
+        words::keep_at(self.high.as_mut_slice(), component, other.high);
+        Ok(())
     }
 
     /// Leaves out the numbers of a component that another set has.
-    pub fn leave_out(&mut self, component: usize, other: &NumberedSet)
+    pub fn leave_out(&mut self, component: usize, other: &NumberedSet) -> Result<(), Memory>
         requires { component < length self.old }
-        ensures { self.new ≡ slice_set self.old component (other_numbers (set_of self.old component) other.now) }
+        ensures sets { OnOk result (self.new ≡ slice_set self.old component (other_numbers (set_of self.old component) other.now)) }
+        ensures err { OnErr result (self.new ≡ self.old) }
     {
-        let low = words::word_at(self.low.as_slice(), component);
-        let high = words::word_at(self.high.as_slice(), component);
+        if component < self.more.len() {
+            return self.leave_out_further(component, other);
+        }
         words::are_two_words(other.low, other.high);
-        words::replace(
-            self.low.as_mut_slice(),
-            component,
-            words::without(low, other.low),
-        );
-        words::replace(
-            self.high.as_mut_slice(),
-            component,
-            words::without(high, other.high),
-        );
-        further::leave_out(&mut self.more, component, other.more.as_slice());
+        words::leave_out_at(self.low.as_mut_slice(), component, other.low);
+        words::leave_out_at(self.high.as_mut_slice(), component, other.high);
+        Ok(())
+    }
+
+    // the same where the component may have further numbers
+    #[inline(never)]
+    fn leave_out_further(&mut self, component: usize, other: &NumberedSet) -> Result<(), Memory>
+        requires { component < length self.old }
+        ensures sets { OnOk result (self.new ≡ slice_set self.old component (other_numbers (set_of self.old component) other.now)) }
+        ensures err { OnErr result (self.new ≡ self.old) }
+    {
+        let alloc = *self.low.allocator();
+        further::leave_out(alloc, &mut self.more, component, other.more.as_slice())?;
+        words::are_two_words(other.low, other.high);
+        words::leave_out_at(self.low.as_mut_slice(), component, other.low);
+        words::leave_out_at(self.high.as_mut_slice(), component, other.high);
+        Ok(())
     }
 
     /// A component's set by itself.
@@ -294,10 +249,9 @@ impl NumberedSets {
         words::are_words(other.low.as_slice());
         words::are_words(other.high.as_slice());
         let alloc = *self.low.allocator();
-        further::widen(alloc, &mut self.more, &other.more)?;
+        let further = further::join(alloc, &mut self.more, &other.more)?;
         let low = words::join(self.low.as_mut_slice(), other.low.as_slice());
         let high = words::join(self.high.as_mut_slice(), other.high.as_slice());
-        let further = further::join(&mut self.more, &other.more);
         Ok(low + high + further)
     }
 

@@ -120,12 +120,12 @@ impl JudgedTests {
         let place = self.place_for(alloc, seen, test)?;
         if self.tests.at(place).is_worth_keeping(seen.len()) {
             self.renew(seen, test, place)?;
-            entry.keep(component, self.passing(place));
+            entry.keep(component, self.passing(place))?;
             return Ok(());
         }
         let asked = seen.passing(alloc, test, component, entry)?;
         self.spend(place, asked.count);
-        entry.keep(component, &asked.passing);
+        entry.keep(component, &asked.passing)?;
         Ok(())
     }
 

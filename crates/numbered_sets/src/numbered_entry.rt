@@ -27,17 +27,6 @@ impl NumberedEntry {
         Ok(NumberedEntry { sets })
     }
 
-    /// Puts the number of a component's value in, and tells whether it is new there.
-    pub fn insert(&mut self, component: usize, number: usize) -> Result<bool, Memory>
-        requires { component < length self.old.sets }
-        ensures is_new { IfOk result (λ is_new. is_new ≡ not (has_number (numbers_at self.old component) number)) }
-        ensures sets { OnOk result (self.new.sets ≡ slice_set self.old.sets component (with_number (numbers_at self.old component) number)) }
-        ensures err { OnErr result (self.new ≡ self.old) }
-    {
-        let is_new = self.sets.insert(component, number)?;
-        Ok(is_new)
-    }
-
     /// Joins another entry into this one, set by set, and tells how many numbers are new. Where memory is wanted each set
     /// is what it was or the join.
     pub fn join_into(&mut self, other: &NumberedEntry) -> Result<u64, Memory>
@@ -68,19 +57,23 @@ impl NumberedEntry {
     }
 
     /// Leaves out the numbers of a component that another set lacks.
-    pub fn keep(&mut self, component: usize, other: &NumberedSet)
+    pub fn keep(&mut self, component: usize, other: &NumberedSet) -> Result<(), Memory>
         requires { component < length self.old.sets }
-        ensures { self.new.sets ≡ slice_set self.old.sets component (kept_numbers (numbers_at self.old component) other.now) }
+        ensures sets { OnOk result (self.new.sets ≡ slice_set self.old.sets component (kept_numbers (numbers_at self.old component) other.now)) }
+        ensures err { OnErr result (self.new ≡ self.old) }
     {
-        self.sets.keep(component, other);
+        self.sets.keep(component, other)?;
+        Ok(())
     }
 
     /// Leaves out the numbers of a component that another set has.
-    pub fn leave_out(&mut self, component: usize, other: &NumberedSet)
+    pub fn leave_out(&mut self, component: usize, other: &NumberedSet) -> Result<(), Memory>
         requires { component < length self.old.sets }
-        ensures { self.new.sets ≡ slice_set self.old.sets component (other_numbers (numbers_at self.old component) other.now) }
+        ensures sets { OnOk result (self.new.sets ≡ slice_set self.old.sets component (other_numbers (numbers_at self.old component) other.now)) }
+        ensures err { OnErr result (self.new ≡ self.old) }
     {
-        self.sets.leave_out(component, other);
+        self.sets.leave_out(component, other)?;
+        Ok(())
     }
 
     /// The first number of a component from one on, if it is below a bound; else the bound.

@@ -96,7 +96,7 @@ impl SeenValues {
         ensures err { OnErr result (entry.new ≡ entry.old) }
     {
         let alone = self.alone(alloc, value)?;
-        entry.keep(component, &alone);
+        entry.keep(component, &alone)?;
         Ok(())
     }
 
@@ -114,7 +114,7 @@ impl SeenValues {
         ensures err { OnErr result (entry.new ≡ entry.old) }
     {
         let alone = self.alone(alloc, value)?;
-        entry.leave_out(component, &alone);
+        entry.leave_out(component, &alone)?;
         Ok(())
     }
 

@@ -4,7 +4,7 @@ ghost use Rattle.bit_words.specs.{Words.{bits_of_words}, Further.{further_bits}}
 ghost use Rattle.numbered_sets.specs.Within.{bits_beside};
 
 use crate::flat_sets::NumberedSets;
-use bit_words::{further, words};
+use bit_words::{SharedWords, further, words};
 use osek_values::Seq;
 
 impl NumberedSets {
@@ -85,7 +85,7 @@ fn are_all_within(words: &[u64], other: &[u64]) -> bool
 }
 
 // whether the further words of each component are within the others'
-fn are_further_within(more: &Seq<Vec<u64>>, other: &Seq<Vec<u64>>) -> bool
+fn are_further_within(more: &Seq<SharedWords>, other: &Seq<SharedWords>) -> bool
     ensures { OnTrue result ((c : ℕ) → bits_beside (further_bits more.now c) (further_bits other.now c) ≡ 0) }
 {
     for component in 0..more.len() {

@@ -1,20 +1,12 @@
-use Rattle.std.proofs.Common.{rules, ◌≡◌, set, sym, ◌∙◌}
-use Rattle.bit_words.specs.Further.{further_bits}
-use Rattle.bit_words.proofs.FurtherLaws.{bits_before, bits_after, changed_by}
+use Rattle.std.proofs.Common.{ap, ◌∙◌}
+use Rattle.bit_words.specs.Words.{bits_of_words}
+use Rattle.bit_words.proofs.FurtherLaws.{changed_to, bits_after}
 use Rattle.bit_words.proofs.further.assign.Goals as goal
 
-pub returns-in_err-assign-clause-others : goal.returns-in_err-assign-clause-others
-returns-in_err-assign-clause-others c = changed_by c.args.more.now c.args.component c.assign.new.words
-
-pub returns-in_err-assign-clause-err : goal.returns-in_err-assign-clause-err
-returns-in_err-assign-clause-err c =
-    let old = c.at_mut-words.result.now in
-    let same : further_bits (set c.args.more.now c.args.component c.assign.new.words) c.args.component ≡ further_bits c.args.more.now c.args.component =
-    bits_after c.args.more.now c.args.component c.assign.new.words c.requires ∙ c.in_err-assign.ensures.err ∙ sym (bits_before c.args.more.now c.args.component old c.requires (c.at_mut-words.ensures.item old)) in
-    search (rules, same)
-
 pub returns-clause-others : goal.returns-clause-others
-returns-clause-others c = changed_by c.args.more.now c.args.component c.assign.new.words
+returns-clause-others c = changed_to c.args.more.now c.put.new.self c.args.component c.in_ok-words.words c.put.ensures
 
 pub returns-clause-bits : goal.returns-clause-bits
-returns-clause-bits c = bits_after c.args.more.now c.args.component c.assign.new.words c.requires ∙ c.in_ok-assign.ensures.bits
+returns-clause-bits c =
+    bits_after c.args.more.now c.put.new.self c.args.component c.in_ok-words.words c.put.ensures c.requires
+    ∙ ap bits_of_words (c.in_ok-words.ensures ∙ c.in_ok-copy.ensures)

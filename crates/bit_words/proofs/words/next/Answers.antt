@@ -1,4 +1,4 @@
-use Rattle.std.proofs.{Common.{◌≡◌, ◌+◌, ◌*◌, ◌/◌, ◌%◌, ◌<◌, ◌≤◌, false, ℕ, sym, ap, ◌∙◌, inl, inr, arith}, lemmas.Bool.{cases_lt}}
+use Rattle.std.proofs.{Common.{◌+◌, ◌*◌, ◌/◌, ◌%◌, ℕ, sym, ap, ◌∙◌, inl, inr, arith}, lemmas.Bool.{cases_lt}}
 use Rattle.bit_words.specs.Words.{bits_of_words}
 use Rattle.bit_words.proofs.SkippedWords.{bit_of_word, none_skipped}
 use Rattle.bit_words.proofs.words.next.Goals as goal

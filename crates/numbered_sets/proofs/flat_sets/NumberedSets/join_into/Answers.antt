@@ -1,10 +1,16 @@
 use Rattle.std.proofs.Common.{rules, ◌≡◌, ◌<◌, ◌+◌, ◌^◌, ℕ, List, length, get_or, ap, ap₂, subst, ◌∙◌, arith}
 use Rattle.std.specs.{Prelude.{bit_or, count_ones}, Vec.{with_items}}
 use Rattle.std.proofs.lemmas.List.{with_items_is}
-use Rattle.bit_words.specs.{Words.{AreWords, bits_of_words}, Further.{further_bits}}
+use Rattle.bit_words.specs.{Words.{AreWords, bits_of_words}}
 use Rattle.numbered_sets.specs.{SetLists.{all_numbers}, FlatSets.{flat_sets}}
-use Rattle.numbered_sets.proofs.FlatLaws.{flat_count, flat_same_further, as_many, flat_joined, AreWordsJoined, words_joined, further_as_many}
+use Rattle.numbered_sets.proofs.FlatLaws.{flat_count, as_many, flat_joined, AreWordsJoined, words_joined}
 use Rattle.numbered_sets.proofs.flat_sets.NumberedSets.join_into.Goals as goal
+
+pub join-requires : goal.join-requires
+join-requires c =
+    let count = flat_count c.other.inside.domains.value.items c.other.inside.low.items c.other.inside.high.items c.other.inside.more c.other.invariant.0 c.other.invariant.1 c.other.invariant.2 (subst (λ (ws : List ℕ). AreWords ws) c.as_slice-3.ensures.value c.are_words-3.ensures) (subst (λ (ws : List ℕ). AreWords ws) c.as_slice-4.ensures.value c.are_words-4.ensures) in
+    let whole : all_numbers (flat_sets c.other.inside.domains.value.items c.other.inside.low.items c.other.inside.high.items c.other.inside.more) ≡ all_numbers c.args.other.now = ap all_numbers c.other.view_is in
+    omega (arith, count, whole, c.requires.few)
 
 pub join-low-requires-clause-room : goal.join-low-requires-clause-room
 join-low-requires-clause-room c =
@@ -37,21 +43,13 @@ join-high-requires-clause-few c =
     let high = ap (λ (ws : List ℕ). count_ones (bits_of_words ws)) c.as_slice-6.ensures.value in
     omega (arith, count, whole, high, c.requires.few)
 
-pub join-further-requires-clause-few : goal.join-further-requires-clause-few
-join-further-requires-clause-few c =
-    let count = flat_count c.other.inside.domains.value.items c.other.inside.low.items c.other.inside.high.items c.other.inside.more c.other.invariant.0 c.other.invariant.1 c.other.invariant.2 (subst (λ (ws : List ℕ). AreWords ws) c.as_slice-3.ensures.value c.are_words-3.ensures) (subst (λ (ws : List ℕ). AreWords ws) c.as_slice-4.ensures.value c.are_words-4.ensures) in
-    let whole : all_numbers (flat_sets c.other.inside.domains.value.items c.other.inside.low.items c.other.inside.high.items c.other.inside.more) ≡ all_numbers c.args.other.now = ap all_numbers c.other.view_is in
-    let low = ap (λ (ws : List ℕ). count_ones (bits_of_words ws)) c.as_slice-5.ensures.value in
-    let high = ap (λ (ws : List ℕ). count_ones (bits_of_words ws)) c.as_slice-6.ensures.value in
-    omega (arith, count, whole, c.requires.few)
-
 pub overflow_add-result : goal.overflow_add-result
 overflow_add-result c =
     let count = flat_count c.other.inside.domains.value.items c.other.inside.low.items c.other.inside.high.items c.other.inside.more c.other.invariant.0 c.other.invariant.1 c.other.invariant.2 (subst (λ (ws : List ℕ). AreWords ws) c.as_slice-3.ensures.value c.are_words-3.ensures) (subst (λ (ws : List ℕ). AreWords ws) c.as_slice-4.ensures.value c.are_words-4.ensures) in
     let whole : all_numbers (flat_sets c.other.inside.domains.value.items c.other.inside.low.items c.other.inside.high.items c.other.inside.more) ≡ all_numbers c.args.other.now = ap all_numbers c.other.view_is in
     let low = ap (λ (ws : List ℕ). count_ones (bits_of_words ws)) c.as_slice-5.ensures.value in
     let high = ap (λ (ws : List ℕ). count_ones (bits_of_words ws)) c.as_slice-6.ensures.value in
-    let fits : c.join-low.result + c.join-high.result + c.join-further.result < 2 ^ 64 = omega (arith, count, whole, low, high, c.join-low.ensures.few, c.join-high.ensures.few, c.join-further.ensures.few, c.requires.few) in
+    let fits : c.join-low.result + c.join-high.result + c.in_ok-further.further < 2 ^ 64 = omega (arith, count, whole, low, high, c.join-low.ensures.few, c.join-high.ensures.few, c.in_ok-further.ensures.less, c.requires.few) in
     search (rules, fits)
 
 pub overflow_add-result-2 : goal.overflow_add-result-2
@@ -60,16 +58,16 @@ overflow_add-result-2 c =
     let whole : all_numbers (flat_sets c.other.inside.domains.value.items c.other.inside.low.items c.other.inside.high.items c.other.inside.more) ≡ all_numbers c.args.other.now = ap all_numbers c.other.view_is in
     let low = ap (λ (ws : List ℕ). count_ones (bits_of_words ws)) c.as_slice-5.ensures.value in
     let high = ap (λ (ws : List ℕ). count_ones (bits_of_words ws)) c.as_slice-6.ensures.value in
-    let fits : c.join-low.result + c.join-high.result + c.join-further.result < 2 ^ 64 = omega (arith, count, whole, low, high, c.join-low.ensures.few, c.join-high.ensures.few, c.join-further.ensures.few, c.requires.few) in
+    let fits : c.join-low.result + c.join-high.result + c.in_ok-further.further < 2 ^ 64 = omega (arith, count, whole, low, high, c.join-low.ensures.few, c.join-high.ensures.few, c.in_ok-further.ensures.less, c.requires.few) in
     search (rules, fits)
 
 pub invariant_of-self : goal.invariant_of-self
-invariant_of-self c = (let many = as_many c.self.inside.domains.value.items c.self.inside.low.items c.self.inside.high.items c.self.inside.more c.args.self.now c.self.view_is in let many_too = as_many c.other.inside.domains.value.items c.other.inside.low.items c.other.inside.high.items c.other.inside.more c.args.other.now c.other.view_is in (c.self.invariant.0, c.self.invariant.1, c.in_err-widen.ensures.few (length c.self.inside.domains.value.items) c.self.invariant.2 (omega (arith, many, many_too, c.requires.as_many, c.other.invariant.2))))
+invariant_of-self c = (let many = as_many c.self.inside.domains.value.items c.self.inside.low.items c.self.inside.high.items c.self.inside.more c.args.self.now c.self.view_is in let many_too = as_many c.other.inside.domains.value.items c.other.inside.low.items c.other.inside.high.items c.other.inside.more c.args.other.now c.other.view_is in (c.self.invariant.0, c.self.invariant.1, c.in_err-further.ensures.few (length c.self.inside.domains.value.items) c.self.invariant.2 (omega (arith, many, many_too, c.requires.as_many, c.other.invariant.2))))
 
-pub returns-in_err-widen-clause-err : goal.returns-in_err-widen-clause-err
-returns-in_err-widen-clause-err c =
-    let same : flat_sets c.self.inside.domains.value.items c.self.inside.low.items c.self.inside.high.items c.widen.new.more ≡ c.args.self.now =
-    flat_same_further c.self.inside.domains.value.items c.self.inside.low.items c.self.inside.high.items c.self.inside.more c.widen.new.more (λ k. c.in_err-widen.ensures.same k) ∙ c.self.view_is in
+pub returns-in_err-further-clause-err : goal.returns-in_err-further-clause-err
+returns-in_err-further-clause-err c =
+    let same : flat_sets c.self.inside.domains.value.items c.self.inside.low.items c.self.inside.high.items c.join.new.more ≡ c.args.self.now =
+    ap (flat_sets c.self.inside.domains.value.items c.self.inside.low.items c.self.inside.high.items) c.in_err-further.ensures.err ∙ c.self.view_is in
     search (rules, same)
 
 pub invariant_of-self-2 : goal.invariant_of-self-2
@@ -84,8 +82,8 @@ invariant_of-self-2 c =
     let mine_too = ap length c.as_mut_slice-2.ensures.value in
     let many = as_many c.self.inside.domains.value.items c.self.inside.low.items c.self.inside.high.items c.self.inside.more c.args.self.now c.self.view_is in
     let many_too = as_many c.other.inside.domains.value.items c.other.inside.low.items c.other.inside.high.items c.other.inside.more c.args.other.now c.other.view_is in
-    let third = c.in_ok-widen.ensures.few (length c.self.inside.domains.value.items) c.self.invariant.2 (omega (arith, many, many_too, c.requires.as_many, c.other.invariant.2)) in
-    (omega (arith, first, mine, c.join-low.auto.words, c.self.invariant.0), omega (arith, second, mine_too, c.join-high.auto.words, c.self.invariant.1), omega (arith, third, c.join-further.ensures.as_many))
+    let third = c.in_ok-further.ensures.few (length c.self.inside.domains.value.items) c.self.invariant.2 (omega (arith, many, many_too, c.requires.as_many, c.other.invariant.2)) in
+    (omega (arith, first, mine, c.join-low.auto.words, c.self.invariant.0), omega (arith, second, mine_too, c.join-high.auto.words, c.self.invariant.1), third)
 
 pub returns-clause-sets : goal.returns-clause-sets
 returns-clause-sets c =
@@ -98,10 +96,10 @@ returns-clause-sets c =
     let highs : AreWordsJoined c.self.inside.high.items c.other.inside.high.items (with_items c.self.inside.high c.join-high.new.words).items =
     (λ i. ap (λ (ws : List ℕ). get_or ws i 0) high_is ∙ c.join-high.ensures.words i ∙ ap₂ (λ (ws us : List ℕ). bit_or (get_or ws i 0) (get_or us i 0)) c.as_mut_slice-2.ensures.value c.as_slice-6.ensures.value) in
     flat_joined c.self.inside.domains.value.items c.other.inside.domains.value.items c.self.inside.low.items c.self.inside.high.items c.other.inside.low.items c.other.inside.high.items
-    (with_items c.self.inside.low c.join-low.new.words).items (with_items c.self.inside.high c.join-high.new.words).items c.self.inside.more c.other.inside.more c.join-further.new.more
+    (with_items c.self.inside.low c.join-low.new.words).items (with_items c.self.inside.high c.join-high.new.words).items c.self.inside.more c.other.inside.more c.join.new.more
     c.args.self.now c.args.other.now c.self.view_is c.other.view_is c.requires.as_many
     (subst (λ (ws : List ℕ). AreWords ws) c.as_slice.ensures.value c.are_words.ensures) (subst (λ (ws : List ℕ). AreWords ws) c.as_slice-2.ensures.value c.are_words-2.ensures) (subst (λ (ws : List ℕ). AreWords ws) c.as_slice-3.ensures.value c.are_words-3.ensures) (subst (λ (ws : List ℕ). AreWords ws) c.as_slice-4.ensures.value c.are_words-4.ensures) lows highs
-    (λ k. c.join-further.ensures.bits k ∙ ap (λ (m : ℕ). bit_or m (further_bits c.other.inside.more k)) (c.in_ok-widen.ensures.same k))
+    c.in_ok-further.ensures.bits
 
 pub returns-clause-count : goal.returns-clause-count
 returns-clause-count c =
@@ -121,15 +119,14 @@ returns-clause-count c =
     let mine_too = ap length c.as_mut_slice-2.ensures.value in
     let many = as_many c.self.inside.domains.value.items c.self.inside.low.items c.self.inside.high.items c.self.inside.more c.args.self.now c.self.view_is in
     let many_too = as_many c.other.inside.domains.value.items c.other.inside.low.items c.other.inside.high.items c.other.inside.more c.args.other.now c.other.view_is in
-    let third = c.in_ok-widen.ensures.few (length c.self.inside.domains.value.items) c.self.invariant.2 (omega (arith, many, many_too, c.requires.as_many, c.other.invariant.2)) in
+    let third = c.in_ok-further.ensures.few (length c.self.inside.domains.value.items) c.self.invariant.2 (omega (arith, many, many_too, c.requires.as_many, c.other.invariant.2)) in
     let was = flat_count c.self.inside.domains.value.items c.self.inside.low.items c.self.inside.high.items c.self.inside.more c.self.invariant.0 c.self.invariant.1 c.self.invariant.2 (subst (λ (ws : List ℕ). AreWords ws) c.as_slice.ensures.value c.are_words.ensures) (subst (λ (ws : List ℕ). AreWords ws) c.as_slice-2.ensures.value c.are_words-2.ensures) in
-    let now = flat_count c.self.inside.domains.value.items new_low new_high c.join-further.new.more
-    (omega (arith, first, mine, c.join-low.auto.words, c.self.invariant.0)) (omega (arith, second, mine_too, c.join-high.auto.words, c.self.invariant.1)) (omega (arith, third, c.join-further.ensures.as_many))
+    let now = flat_count c.self.inside.domains.value.items new_low new_high c.join.new.more
+    (omega (arith, first, mine, c.join-low.auto.words, c.self.invariant.0)) (omega (arith, second, mine_too, c.join-high.auto.words, c.self.invariant.1)) (third)
     (words_joined c.self.inside.low.items c.other.inside.low.items new_low (subst (λ (ws : List ℕ). AreWords ws) c.as_slice.ensures.value c.are_words.ensures) (subst (λ (ws : List ℕ). AreWords ws) c.as_slice-3.ensures.value c.are_words-3.ensures) lows) (words_joined c.self.inside.high.items c.other.inside.high.items new_high (subst (λ (ws : List ℕ). AreWords ws) c.as_slice-2.ensures.value c.are_words-2.ensures) (subst (λ (ws : List ℕ). AreWords ws) c.as_slice-4.ensures.value c.are_words-4.ensures) highs) in
     let whole : all_numbers (flat_sets c.self.inside.domains.value.items c.self.inside.low.items c.self.inside.high.items c.self.inside.more) ≡ all_numbers c.args.self.now = ap all_numbers c.self.view_is in
     let low : count_ones (bits_of_words new_low) ≡ count_ones (bits_of_words c.self.inside.low.items) + c.join-low.result =
     ap (λ (ws : List ℕ). count_ones (bits_of_words ws)) low_is ∙ c.join-low.ensures.count ∙ ap (λ (ws : List ℕ). count_ones (bits_of_words ws) + c.join-low.result) c.as_mut_slice.ensures.value in
     let high : count_ones (bits_of_words new_high) ≡ count_ones (bits_of_words c.self.inside.high.items) + c.join-high.result =
     ap (λ (ws : List ℕ). count_ones (bits_of_words ws)) high_is ∙ c.join-high.ensures.count ∙ ap (λ (ws : List ℕ). count_ones (bits_of_words ws) + c.join-high.result) c.as_mut_slice-2.ensures.value in
-    let further = further_as_many c.widen.new.more c.self.inside.more c.in_ok-widen.ensures.same in
-    omega (arith, was, now, whole, low, high, further, c.join-further.ensures.count)
+    omega (arith, was, now, whole, low, high, c.in_ok-further.ensures.count)

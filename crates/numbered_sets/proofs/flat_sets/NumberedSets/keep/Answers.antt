@@ -1,29 +1,39 @@
-use Rattle.std.proofs.Common.{◌≡◌, ℕ, List, set, refl, ap, ap₂, ◌∙◌, arith}
+use Rattle.std.proofs.Common.{◌≡◌, ◌<◌, ◌^◌, ℕ, List, get_or, set, refl, sym, ap, ap₂, subst, ◌∙◌, arith}
 use Rattle.std.specs.{Prelude.{bit_and}, Vec.{with_items}}
 use Rattle.bit_words.specs.{Words.{bits_of_words}, Further.{further_at, further_bits}}
 use Rattle.bit_words.proofs.FirstWords.{both_two}
+use Rattle.bit_words.proofs.{OtherWords.{and_zero_l}, FurtherLaws.{no_further}}
 use Rattle.numbered_sets.specs.{Numbers.{Numbers}, SetLists.{set_of}}
 use Rattle.numbered_sets.proofs.FlatLaws.{read_is, flat_put, written, still_long}
 use Rattle.numbered_sets.proofs.flat_sets.NumberedSets.keep.Goals as goal
 
 pub invariant_of-self : goal.invariant_of-self
 invariant_of-self c =
-    let lows : (with_items c.self.inside.low c.replace.new.words).items ≡ set c.self.inside.low.items c.args.component (bit_and c.word_at-low.result c.other.inside.low) = written c.self.inside.low c.replace.new.words c.as_mut_slice.result.now c.args.component (bit_and c.word_at-low.result c.other.inside.low) (omega (arith, c.replace.auto.words, c.as_mut_slice.ensures.len)) c.replace.ensures c.as_mut_slice.ensures.value in
-    let highs : (with_items c.self.inside.high c.replace-2.new.words).items ≡ set c.self.inside.high.items c.args.component (bit_and c.word_at-high.result c.other.inside.high) = written c.self.inside.high c.replace-2.new.words c.as_mut_slice-2.result.now c.args.component (bit_and c.word_at-high.result c.other.inside.high) (omega (arith, c.replace-2.auto.words, c.as_mut_slice-2.ensures.len)) c.replace-2.ensures c.as_mut_slice-2.ensures.value in
-    let third = c.keep.ensures.others.as_many in
-    (still_long c.self.inside.domains.value.items c.self.inside.low.items _ c.args.component _ lows c.self.invariant.0, still_long c.self.inside.domains.value.items c.self.inside.high.items _ c.args.component _ highs c.self.invariant.1, omega (arith, third, c.self.invariant.2))
+    let lows : (with_items c.self.inside.low c.keep_at.new.words).items ≡ set c.self.inside.low.items c.args.component (bit_and (get_or c.self.inside.low.items c.args.component 0) c.other.inside.low) =
+    written c.self.inside.low c.keep_at.new.words c.as_mut_slice.result.now c.args.component (bit_and (get_or c.self.inside.low.items c.args.component 0) c.other.inside.low) (omega (arith, c.keep_at.auto.words, c.as_mut_slice.ensures.len))
+    (c.keep_at.ensures.word ∙ ap (λ (ws : List ℕ). set c.as_mut_slice.result.now c.args.component (bit_and (get_or ws c.args.component 0) c.other.inside.low)) c.as_mut_slice.ensures.value) c.as_mut_slice.ensures.value in
+    let highs : (with_items c.self.inside.high c.keep_at-2.new.words).items ≡ set c.self.inside.high.items c.args.component (bit_and (get_or c.self.inside.high.items c.args.component 0) c.other.inside.high) =
+    written c.self.inside.high c.keep_at-2.new.words c.as_mut_slice-2.result.now c.args.component (bit_and (get_or c.self.inside.high.items c.args.component 0) c.other.inside.high) (omega (arith, c.keep_at-2.auto.words, c.as_mut_slice-2.ensures.len))
+    (c.keep_at-2.ensures.word ∙ ap (λ (ws : List ℕ). set c.as_mut_slice-2.result.now c.args.component (bit_and (get_or ws c.args.component 0) c.other.inside.high)) c.as_mut_slice-2.ensures.value) c.as_mut_slice-2.ensures.value in
+    (still_long c.self.inside.domains.value.items c.self.inside.low.items _ c.args.component _ lows c.self.invariant.0, still_long c.self.inside.domains.value.items c.self.inside.high.items _ c.args.component _ highs c.self.invariant.1, c.self.invariant.2)
 
-pub returns : goal.returns
-returns c =
-    let lows : (with_items c.self.inside.low c.replace.new.words).items ≡ set c.self.inside.low.items c.args.component (bit_and c.word_at-low.result c.other.inside.low) = written c.self.inside.low c.replace.new.words c.as_mut_slice.result.now c.args.component (bit_and c.word_at-low.result c.other.inside.low) (omega (arith, c.replace.auto.words, c.as_mut_slice.ensures.len)) c.replace.ensures c.as_mut_slice.ensures.value in
-    let highs : (with_items c.self.inside.high c.replace-2.new.words).items ≡ set c.self.inside.high.items c.args.component (bit_and c.word_at-high.result c.other.inside.high) = written c.self.inside.high c.replace-2.new.words c.as_mut_slice-2.result.now c.args.component (bit_and c.word_at-high.result c.other.inside.high) (omega (arith, c.replace-2.auto.words, c.as_mut_slice-2.ensures.len)) c.replace-2.ensures c.as_mut_slice-2.ensures.value in
-    let rest : further_bits c.keep.new.more c.args.component ≡ bit_and (further_bits c.self.inside.more c.args.component) (bits_of_words c.other.inside.more.items) = c.keep.ensures.bits ∙ ap (λ (ws : List ℕ). bit_and (further_bits c.self.inside.more c.args.component) (bits_of_words ws)) c.as_slice-3.ensures.value in
-    flat_put c.self.inside.domains.value.items c.self.inside.low.items c.self.inside.high.items c.self.inside.more c.args.self.now c.self.view_is c.args.component (bit_and c.word_at-low.result c.other.inside.low) (bit_and c.word_at-high.result c.other.inside.high) (bit_and (set_of c.args.self.now c.args.component).bits c.args.other.now.bits)
-    (with_items c.self.inside.low c.replace.new.words).items (with_items c.self.inside.high c.replace-2.new.words).items c.keep.new.more lows highs c.self.invariant.0 c.self.invariant.1 c.requires
-    (λ k differ. ap bits_of_words (c.keep.ensures.others.others k differ))
-    (both_two c.word_at-low.result c.word_at-high.result c.other.inside.low c.other.inside.high (further_at c.self.inside.more c.args.component) c.other.inside.more.items (further_at c.keep.new.more c.args.component)
-    c.word_at-low.ensures.fits c.word_at-high.ensures.fits c.are_two_words.ensures.low c.are_two_words.ensures.high rest
+pub returns-clause-sets : goal.returns-clause-sets
+returns-clause-sets c =
+    let lows : (with_items c.self.inside.low c.keep_at.new.words).items ≡ set c.self.inside.low.items c.args.component (bit_and (get_or c.self.inside.low.items c.args.component 0) c.other.inside.low) =
+    written c.self.inside.low c.keep_at.new.words c.as_mut_slice.result.now c.args.component (bit_and (get_or c.self.inside.low.items c.args.component 0) c.other.inside.low) (omega (arith, c.keep_at.auto.words, c.as_mut_slice.ensures.len))
+    (c.keep_at.ensures.word ∙ ap (λ (ws : List ℕ). set c.as_mut_slice.result.now c.args.component (bit_and (get_or ws c.args.component 0) c.other.inside.low)) c.as_mut_slice.ensures.value) c.as_mut_slice.ensures.value in
+    let highs : (with_items c.self.inside.high c.keep_at-2.new.words).items ≡ set c.self.inside.high.items c.args.component (bit_and (get_or c.self.inside.high.items c.args.component 0) c.other.inside.high) =
+    written c.self.inside.high c.keep_at-2.new.words c.as_mut_slice-2.result.now c.args.component (bit_and (get_or c.self.inside.high.items c.args.component 0) c.other.inside.high) (omega (arith, c.keep_at-2.auto.words, c.as_mut_slice-2.ensures.len))
+    (c.keep_at-2.ensures.word ∙ ap (λ (ws : List ℕ). set c.as_mut_slice-2.result.now c.args.component (bit_and (get_or ws c.args.component 0) c.other.inside.high)) c.as_mut_slice-2.ensures.value) c.as_mut_slice-2.ensures.value in
+    let none = no_further c.self.inside.more c.args.component (omega (arith, c.if-component-len.false, c.len.ensures)) in
+    let rest : further_bits c.self.inside.more c.args.component ≡ bit_and (further_bits c.self.inside.more c.args.component) (bits_of_words c.other.inside.more.items) =
+    none ∙ sym (ap (λ m. bit_and m (bits_of_words c.other.inside.more.items)) none ∙ and_zero_l (bits_of_words c.other.inside.more.items)) in
+    flat_put c.self.inside.domains.value.items c.self.inside.low.items c.self.inside.high.items c.self.inside.more c.args.self.now c.self.view_is c.args.component (bit_and (get_or c.self.inside.low.items c.args.component 0) c.other.inside.low) (bit_and (get_or c.self.inside.high.items c.args.component 0) c.other.inside.high) (bit_and (set_of c.args.self.now c.args.component).bits c.args.other.now.bits)
+    (with_items c.self.inside.low c.keep_at.new.words).items (with_items c.self.inside.high c.keep_at-2.new.words).items c.self.inside.more lows highs c.self.invariant.0 c.self.invariant.1 c.requires
+    (λ k differ. refl)
+    (both_two (get_or c.self.inside.low.items c.args.component 0) (get_or c.self.inside.high.items c.args.component 0) c.other.inside.low c.other.inside.high (further_at c.self.inside.more c.args.component) c.other.inside.more.items (further_at c.self.inside.more c.args.component)
+    (subst (λ (ws : List ℕ). get_or ws c.args.component 0 < 2 ^ 64) c.as_mut_slice.ensures.value c.keep_at.ensures.fits) (subst (λ (ws : List ℕ). get_or ws c.args.component 0 < 2 ^ 64) c.as_mut_slice-2.ensures.value c.keep_at-2.ensures.fits) c.are_two_words.ensures.low c.are_two_words.ensures.high rest
     ∙ ap₂ (λ (m n : ℕ). bit_and m n)
     (read_is c.self.inside.domains.value.items c.self.inside.low.items c.self.inside.high.items c.self.inside.more c.args.self.now c.self.view_is c.self.invariant.0 c.self.invariant.1 c.self.invariant.2 c.args.component
-    c.word_at-low.result c.word_at-high.result c.as_slice.result.now c.as_slice-2.result.now (further_at c.self.inside.more c.args.component) c.as_slice.ensures.value c.as_slice-2.ensures.value c.word_at-low.ensures.word c.word_at-high.ensures.word refl)
+    (get_or c.self.inside.low.items c.args.component 0) (get_or c.self.inside.high.items c.args.component 0) c.self.inside.low.items c.self.inside.high.items (further_at c.self.inside.more c.args.component) refl refl refl refl refl)
     (ap (λ (x : Numbers). x.bits) c.other.view_is))

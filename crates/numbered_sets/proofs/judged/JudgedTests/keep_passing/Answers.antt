@@ -14,7 +14,10 @@ returns-then-is_worth_keeping-clause-passing c =
     let none = judged_test test 0 was 0 in
     let asked : IsSifted values test was (kept_numbers was (get_or tests place none).passing) = asked_sifted values test tests place c.renew.ensures.judged c.in_ok-renew.ensures.asked was none in
     let kept : IsSifted values test was (kept_numbers was passing) = subst (λ (x : Numbers). IsSifted values test was (kept_numbers was x)) (c.passing.ensures none) asked in
-    subst (IsSifted values test was) (sym (put_at c.args.entry.now.sets c.keep.new.self.sets c.args.component (kept_numbers was passing) c.requires.given c.keep.ensures)) kept
+    subst (IsSifted values test was) (sym (put_at c.args.entry.now.sets c.keep.new.self.sets c.args.component (kept_numbers was passing) c.requires.given c.in_ok-keep.ensures.sets)) kept
+
+pub returns-in_err-keep-2-clause-judged : goal.returns-in_err-keep-2-clause-judged
+returns-in_err-keep-2-clause-judged c = c.spend.ensures.judged c.args.seen.now.values c.place_for.ensures.judged
 
 pub returns-clause-judged : goal.returns-clause-judged
 returns-clause-judged c = c.spend.ensures.judged c.args.seen.now.values c.place_for.ensures.judged
@@ -25,5 +28,5 @@ returns-clause-passing c =
     let test = c.args.test.now in
     let was = numbers_at c.args.entry.now c.args.component in
     let passing = c.in_ok-asked.asked.passing in
-    subst (IsSifted values test was) (sym (put_at c.args.entry.now.sets c.keep-2.new.self.sets c.args.component (kept_numbers was passing) c.requires.given c.keep-2.ensures))
+    subst (IsSifted values test was) (sym (put_at c.args.entry.now.sets c.keep-2.new.self.sets c.args.component (kept_numbers was passing) c.requires.given c.in_ok-keep-2.ensures.sets))
     (passing_kept values test was passing c.in_ok-asked.ensures)

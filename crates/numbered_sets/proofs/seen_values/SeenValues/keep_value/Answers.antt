@@ -9,10 +9,10 @@ returns-clause-passing c =
     let values = c.args.self.now.values in
     let was = numbers_at c.args.entry.now c.args.component in
     let alone = c.in_ok-alone.alone in
-    subst (IsSifted values (test.Is c.args.value.now) was) (sym (put_at c.args.entry.now.sets c.keep.new.self.sets c.args.component (kept_numbers was alone) c.requires c.keep.ensures))
+    subst (IsSifted values (test.Is c.args.value.now) was) (sym (put_at c.args.entry.now.sets c.keep.new.self.sets c.args.component (kept_numbers was alone) c.requires c.in_ok-keep.ensures.sets))
     (kept_by values (test.Is c.args.value.now) was alone c.in_ok-alone.ensures.each)
 
 pub returns-clause-others : goal.returns-clause-others
 returns-clause-others c =
     let made = kept_numbers (numbers_at c.args.entry.now c.args.component) c.in_ok-alone.alone in
-    c.keep.ensures ∙ ap (set c.args.entry.now.sets c.args.component) (sym (put_at c.args.entry.now.sets c.keep.new.self.sets c.args.component made c.requires c.keep.ensures))
+    c.in_ok-keep.ensures.sets ∙ ap (set c.args.entry.now.sets c.args.component) (sym (put_at c.args.entry.now.sets c.keep.new.self.sets c.args.component made c.requires c.in_ok-keep.ensures.sets))

@@ -1,7 +1,7 @@
 use Rattle.std.proofs.Common.{◌≡◌, ◌+◌, ◌≤◌, take}
 use Rattle.bit_words.specs.Further.{further_count}
 use Rattle.bit_words.proofs.FurtherLaws.{AreBitsJoinedUpTo}
-use Rattle.bit_words.proofs.further.join.Given as goal
+use Rattle.bit_words.proofs.further.join_each.Given as goal
 
 abbrev pub invariant-loop-component : goal.invariant-loop-component
 invariant-loop-component l =
