@@ -70,7 +70,7 @@ impl<'a> AfterEffect<'a> {
             return Ok(());
         }
         let mut live = self.after;
-        self.levels.of(task).keep_live(task, &mut live);
+        self.levels.of(task).keep_live(task, &mut live)?;
         if !live.is_filled() {
             return Ok(());
         }

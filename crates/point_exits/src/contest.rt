@@ -65,21 +65,27 @@ impl<'a> Contest<'a> {
         }
         let mut left = self.values.after.copy(alloc)?;
         for task in 0..self.values.app.tasks.len() {
-            self.keep_under(claim, TaskNo(task as u8), &mut left);
+            self.keep_under(claim, TaskNo(task as u8), &mut left)?;
         }
         Ok(Some(left))
     }
 
     // leaves the values of a task alone with which it is under its limit
-    fn keep_under(&self, claim: Claim, task: TaskNo, entry: &mut NumberedEntry)
+    fn keep_under(
+        &self,
+        claim: Claim,
+        task: TaskNo,
+        entry: &mut NumberedEntry,
+    ) -> Result<(), Memory>
         requires known { task.0 < length self.now.values.now.app.now.tasks }
         requires left { IsLeftBy self.now.values.now claim task.0 entry.old }
-        ensures { IsLeftBy self.now.values.now claim (task.0 + 1) entry.new }
+        ensures { OnOk result (IsLeftBy self.now.values.now claim (task.0 + 1) entry.new) }
     {
         let Some(limit) = claim.limit(task) else {
-            return;
+            return Ok(());
         };
-        self.values.levels.of(task).keep_below(task, limit, entry);
+        self.values.levels.of(task).keep_below(task, limit, entry)?;
+        Ok(())
     }
 
     /// Adds the exits by which a task other than the one that runs gets the processor.
@@ -203,7 +209,7 @@ impl<'a> Contender<'a> {
         let Some(mut left) = self.contest.left_by(alloc, claim)? else {
             return Ok(None);
         };
-        left.keep(component, &self.level.numbers);
+        left.keep(component, &self.level.numbers)?;
         Ok(Some(left))
     }
 }

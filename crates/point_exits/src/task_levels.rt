@@ -202,25 +202,32 @@ impl TaskLevels {
     }
 
     /// Leaves out the numbers of the values with which the task is Live and not below a limit.
-    pub fn keep_below(&self, task: TaskNo, limit: u64, entry: &mut NumberedEntry)
+    pub fn keep_below(
+        &self,
+        task: TaskNo,
+        limit: u64,
+        entry: &mut NumberedEntry,
+    ) -> Result<(), Memory>
         requires { task.0 < length entry.old.sets }
-        ensures { (app : App) (pool : List Values) → AreTaskLevels app task.0 (values_at pool task.0) self.now → AreAllJudged self.now (numbers_at entry.old task.0) →
-            IsNarrowed (λ v. is_below app task.0 limit (val_of v)) pool task.0 entry.old entry.new }
+        ensures { OnOk result ((app : App) (pool : List Values) → AreTaskLevels app task.0 (values_at pool task.0) self.now → AreAllJudged self.now (numbers_at entry.old task.0) →
+            IsNarrowed (λ v. is_below app task.0 limit (val_of v)) pool task.0 entry.old entry.new) }
     {
         for level in self.levels.as_slice() {
             if level.priority as u64 >= limit {
-                entry.leave_out(task.index(), &level.numbers);
+                entry.leave_out(task.index(), &level.numbers)?;
             }
         }
+        Ok(())
     }
 
     /// Leaves out the numbers of the values with which the task isn't Live.
-    pub fn keep_live(&self, task: TaskNo, entry: &mut NumberedEntry)
+    pub fn keep_live(&self, task: TaskNo, entry: &mut NumberedEntry) -> Result<(), Memory>
         requires { task.0 < length entry.old.sets }
-        ensures { (app : App) (pool : List Values) → AreTaskLevels app task.0 (values_at pool task.0) self.now → AreAllJudged self.now (numbers_at entry.old task.0) →
-            IsNarrowed (λ v. is_live_value (val_of v)) pool task.0 entry.old entry.new }
+        ensures { OnOk result ((app : App) (pool : List Values) → AreTaskLevels app task.0 (values_at pool task.0) self.now → AreAllJudged self.now (numbers_at entry.old task.0) →
+            IsNarrowed (λ v. is_live_value (val_of v)) pool task.0 entry.old entry.new) }
     {
-        entry.leave_out(task.index(), &self.dead);
+        entry.leave_out(task.index(), &self.dead)?;
+        Ok(())
     }
 }
 

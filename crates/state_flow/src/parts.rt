@@ -109,6 +109,6 @@ fn with_new_alone(
 {
     let known = before.sets.set(alloc, component)?;
     let mut part = entry.copy(alloc)?;
-    part.leave_out(component, &known);
+    part.leave_out(component, &known)?;
     Ok(part)
 }

@@ -25,7 +25,7 @@ returns-then-not-is_filled c =
     let t = c.args.task in
     let live = c.keep_live.new.entry in
     let known : t.0 < length x.app.now.tasks = omega arith in
-    let narrowed = narrowed_live x.app.now x.pool.now x.levels.now t.0 known c.args.self.decidable.levels c.of.result.now c.of.ensures x.after live c.args.self.decidable.whole.numbers c.keep_live.ensures in
+    let narrowed = narrowed_live x.app.now x.pool.now x.levels.now t.0 known c.args.self.decidable.levels c.of.result.now c.of.ensures x.after live c.args.self.decidable.whole.numbers c.in_ok-keep_live.ensures in
     let empty = subst (λ (b : Bool). OnFalse b (HasEmptySet live)) c.if-not-is_filled.true c.is_filled.ensures.none in
     never_runs x.app.now x.pool.now x.leaving x.after t c.requires live known narrowed c.args.self.decidable.whole.filled empty c.args.groups.now.items
 
@@ -35,7 +35,7 @@ invariant_of-running c =
     let t = c.args.task in
     let live = c.keep_live.new.entry in
     let known : t.0 < length x.app.now.tasks = omega arith in
-    let narrowed = narrowed_live x.app.now x.pool.now x.levels.now t.0 known c.args.self.decidable.levels c.of.result.now c.of.ensures x.after live c.args.self.decidable.whole.numbers c.keep_live.ensures in
+    let narrowed = narrowed_live x.app.now x.pool.now x.levels.now t.0 known c.args.self.decidable.levels c.of.result.now c.of.ensures x.after live c.args.self.decidable.whole.numbers c.in_ok-keep_live.ensures in
     let filled = subst (λ (b : Bool). OnTrue b (AreFilled live)) c.if-not-is_filled.false c.is_filled.ensures.filled in
     record {
       decidable = record {
@@ -51,7 +51,7 @@ push_running-requires-clause-alive c =
     let t = c.args.task in
     let live = c.keep_live.new.entry in
     let known : t.0 < length x.app.now.tasks = omega arith in
-    let narrowed = narrowed_live x.app.now x.pool.now x.levels.now t.0 known c.args.self.decidable.levels c.of.result.now c.of.ensures x.after live c.args.self.decidable.whole.numbers c.keep_live.ensures in
+    let narrowed = narrowed_live x.app.now x.pool.now x.levels.now t.0 known c.args.self.decidable.levels c.of.result.now c.of.ensures x.after live c.args.self.decidable.whole.numbers c.in_ok-keep_live.ensures in
     all_alive x.app.now x.pool.now x.after live t.0 known narrowed
 
 pub returns : goal.returns
@@ -60,5 +60,5 @@ returns c =
     let t = c.args.task in
     let live = c.keep_live.new.entry in
     let known : t.0 < length x.app.now.tasks = omega arith in
-    let narrowed = narrowed_live x.app.now x.pool.now x.levels.now t.0 known c.args.self.decidable.levels c.of.result.now c.of.ensures x.after live c.args.self.decidable.whole.numbers c.keep_live.ensures in
+    let narrowed = narrowed_live x.app.now x.pool.now x.levels.now t.0 known c.args.self.decidable.levels c.of.result.now c.of.ensures x.after live c.args.self.decidable.whole.numbers c.in_ok-keep_live.ensures in
     live_adds x.app.now x.pool.now x.leaving x.after t c.requires live known narrowed c.args.groups.now.items c.push_running.new.groups.items c.in_ok-push_running.ensures

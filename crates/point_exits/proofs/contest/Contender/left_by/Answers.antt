@@ -32,4 +32,4 @@ returns-clause-some c =
     let level = c.args.self.now.level.now in
     let met = met_at x.after level.numbers c.args.self.now.task.0 c.index-component.result true c.meets.result c.index-component.ensures c.meets.ensures c.if-not-meets.false in
     cut x.app.now x.pool.now c.args.claim c.args.self.now.task.0 level x.after c.args.self.now.known x.decidable.whole c.requires met c.in_ok-left.field-0 c.in-Some.left c.in-Some.is c.in_ok-left.ensures.left c.in_ok-left.ensures.filled
-    c.index-component.result c.keep.new.self c.index-component.ensures c.keep.ensures
+    c.index-component.result c.keep.new.self c.index-component.ensures c.in_ok-keep.ensures.sets

@@ -26,5 +26,5 @@ returns c =
     let own = c.of.result.now in
     let all = x.decidable.levels in
     let numbers = known_left (is_under_limit app c.args.claim t) pool x.after entry c.requires.left x.decidable.whole.numbers in
-    let narrowed = c.keep_below.ensures app pool (own_levels app pool levels t c.requires.known all own c.of.ensures) (all_judged app pool levels t c.requires.known all own c.of.ensures entry numbers) in
+    let narrowed = c.in_ok-keep_below.ensures app pool (own_levels app pool levels t c.requires.known all own c.of.ensures) (all_judged app pool levels t c.requires.known all own c.of.ensures entry numbers) in
     limited_left app c.args.claim pool x.after t entry c.keep_below.new.entry c.in-Some.limit (sym c.limit.ensures ∙ c.in-Some.is) narrowed c.requires.left
