@@ -1,6 +1,6 @@
 -- How many sets an entry has, and a pool: those of the application's components.
-use Rattle.std.proofs.{Common.{◌≡◌, ◌<◌, ◌≤◌, List, length, get_or, sym, ap, ◌∙◌, arith}, Math.ListN.{get_or-map}, lemmas.List.{length-map}}
-use Rattle.osek_values.specs.Numbers.{alarm_no}
+use Rattle.std.proofs.{Common.{◌≡◌, ℕ, ◌<◌, ◌≤◌, List, length, get_or, sym, ap, ◌∙◌, arith}, Math.ListN.{get_or-map}, lemmas.List.{length-map}}
+use Rattle.osek_values.specs.Numbers.{alarm_no, task_no}
 use Rattle.osek_standard.specs.declared.app.App.{App}
 use Rattle.abstract_state.specs.{declared.{value.Domain.{Domain}, table.ValueSet.{ValueSet}}, Components.{components, component_count}}
 use Rattle.abstract_state.specs.declared.value.Component.TheVariants as component
@@ -9,10 +9,9 @@ use Rattle.abstract_state.specs.Domains.{domain_of, domains_of}
 use Rattle.abstract_state.proofs.ComponentLaws.{task_at_its_number}
 use Rattle.flow_model.specs.{declared.rule.Rule.{Rule}, Tests.{value_after}, Rules.{Applies}}
 use Rattle.numbered_sets.specs.{declared.numbered_entry.NumberedEntry.{NumberedEntry}, Numbers.{Numbers}, NumberedEntries.{numbers_at, number_domains, AreFilled}}
-use Rattle.numbered_sets.specs.{Pools.{Values, no_values, pool_domains}, Views.{plain_entry}}
+use Rattle.numbered_sets.specs.{Pools.{Values, no_values, domain_at, pool_domains}, Views.{plain_entry}}
 use Rattle.numbered_sets.proofs.ViewLaws.{same_domains}
 use Rattle.flow_exits.specs.Exits.{IsFilled}
-use Rattle.point_exits.specs.Levels.{HaveTaskDomains}
 use Rattle.point_exits.proofs.{LeftLaws.{tasks_counted}, NumberLaws.{member_number, number_fills}}
 
 -- an entry with the components' domains has a set for each
@@ -21,16 +20,16 @@ sets_counted app pool entry e =
     sym (length-map (plain_entry pool entry).sets (λ (s : ValueSet). s.domain)) ∙ ap (λ (ds : List Domain). length ds) (same_domains pool 0 entry.sets ∙ e) ∙ length-map (components app) (domain_of app)
 
 -- a pool for the application's components has values of each, and of each task
-pub pool_counted : (app : App) (pool : List Values) (entry : NumberedEntry) → number_domains entry ≡ domains_of app → number_domains entry ≡ pool_domains pool → length pool ≡ component_count app
-pool_counted app pool entry alike numbers = sym (length-map pool (λ (x : Values). x.domain)) ∙ ap (λ (ds : List Domain). length ds) (sym numbers ∙ alike) ∙ length-map (components app) (domain_of app)
+pub pool_counted : (app : App) (pool : List Values) → pool_domains pool ≡ domains_of app → length pool ≡ component_count app
+pool_counted app pool same = sym (length-map pool (λ (x : Values). x.domain)) ∙ ap (λ (ds : List Domain). length ds) same ∙ length-map (components app) (domain_of app)
 
-pub pool_has_tasks : (app : App) (pool : List Values) (entry : NumberedEntry) → number_domains entry ≡ domains_of app → number_domains entry ≡ pool_domains pool → length app.tasks ≤ length pool
-pool_has_tasks app pool entry alike numbers = omega (arith, pool_counted app pool entry alike numbers, tasks_counted app)
+pub pool_has_tasks : (app : App) (pool : List Values) → pool_domains pool ≡ domains_of app → length app.tasks ≤ length pool
+pool_has_tasks app pool same = omega (arith, pool_counted app pool same, tasks_counted app)
 
-pub task_domains : (app : App) (pool : List Values) (entry : NumberedEntry) → number_domains entry ≡ domains_of app → number_domains entry ≡ pool_domains pool → HaveTaskDomains app pool
-task_domains app pool entry alike numbers t known =
+pub task_domain : (app : App) (pool : List Values) → pool_domains pool ≡ domains_of app → (t : ℕ) → t < length app.tasks → domain_at pool t ≡ domain_of app (component.Task (task_no t))
+task_domain app pool same t known =
     sym (get_or-map (λ (x : Values). x.domain) pool t (no_values domain.Alarm))
-    ∙ ap (λ (ds : List Domain). get_or ds t domain.Alarm) (sym numbers ∙ alike)
+    ∙ ap (λ (ds : List Domain). get_or ds t domain.Alarm) same
     ∙ get_or-map (domain_of app) (components app) t (component.Alarm (alarm_no 0))
     ∙ ap (domain_of app) (task_at_its_number app t known)
 

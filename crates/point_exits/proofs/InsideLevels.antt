@@ -21,7 +21,7 @@ goes_in v = updated update.Inside v
 
 -- ---- a pool that grew
 
-inside_longer : (vs ws : List PartValue) (x : Insides) → IsExtended vs ws → AreInside vs x → AreInside ws x
+pub inside_longer : (vs ws : List PartValue) (x : Insides) → IsExtended vs ws → AreInside vs x → AreInside ws x
 inside_longer vs ws x longer h = record {
   few = omega (arith, h.few, ap length longer.is, length-append vs longer.more);
   each = λ n v lt is. number_stays vs ws (goes_in v) (get_or x.numbers n 0) longer (h.each n v lt (number_was vs ws v n longer (omega (arith, lt, h.few)) is));

@@ -1,5 +1,5 @@
 -- What becomes of the levels of a task as its values are judged, one after the other.
-use Rattle.std.proofs.Common.{◌≡◌, ◌⊎◌, ℕ, ◌+◌, ◌^◌, ◌<◌, Bool, true, false, ◌||◌, List, [], ◌∷◌, ◌++◌, length, get_or, set, refl, sym, ap, subst, ◌∙◌, inl, inr, arith, IsTrue, get_or-set_same, get_or-set_other}
+use Rattle.std.proofs.Common.{Result, Ok, Err, OnErr, ◌≡◌, ◌⊎◌, ℕ, ◌+◌, ◌^◌, ◌<◌, Bool, true, false, ◌||◌, List, [], ◌∷◌, ◌++◌, length, get_or, set, refl, sym, ap, subst, ◌∙◌, inl, inr, arith, IsTrue, get_or-set_same, get_or-set_other}
 use Rattle.std.specs.{Prelude.{Contains, Some, None, IfSome}, declared.option.Option.{Option}}
 use Rattle.std.proofs.{Math.Bool.{or-true}, lemmas.{Bool.{cases_eq, or_cases, eq-eqb, eqb-true}, List.{length-set, get_or_default}}}
 use Rattle.std.proofs.lemmas.List.Elements.{All-set, All-contains, Contains-get_or, Contains-append_left, Contains-push_cases}
@@ -167,3 +167,8 @@ module _ (app : App) (u : ℕ) (vs : List PartValue) where
           ]
         ]);
       })
+
+-- what holds anyway holds where memory is wanted
+pub also_wanting : {T E P : Type 0} (r : Result T E) → P → OnErr r P
+also_wanting (Ok x) p = tt
+also_wanting (Err e) p = p

@@ -30,6 +30,7 @@ pub mod SettledGroups
 pub mod SettlingSteps
 pub mod AddingEffects
 pub mod EntryCounts
+pub mod GrownNumberings
 pub mod OutLaws
 pub mod ArrivingGroups
 pub mod LeavingPoints

@@ -2,7 +2,7 @@
 use Rattle.std.specs.{Prelude.{◌≡◌, ℕ, ◌<◌, Bool, false, ◌==◌, List, [], length, take, slice_index_or, IsTrue, if◌then◌else◌}, List.{list_any}}
 use Rattle.abstract_state.specs.{declared.value.PartValue.{PartValue}, Domains.{IsWithin}, Tables.{is_member}}
 use Rattle.flow_model.specs.{declared.{change.Change.{Change}, rule.Rule.{Rule}}, Tests.{updated, value_after}}
-use Rattle.numbered_sets.specs.{declared.numbered_entry.NumberedEntry.{NumberedEntry}, Numbers.{Numbers}, NumberedEntries.{no_set, numbers_at}}
+use Rattle.numbered_sets.specs.{declared.numbered_entry.NumberedEntry.{NumberedEntry}, Numbers.{Numbers, has_number}, NumberedEntries.{no_set, numbers_at}}
 use Rattle.numbered_sets.specs.{Pools.{Values, values_at, domain_at, IsLonger}, Views.{plain_set}}
 use Rattle.point_exits.specs.Applying.{IsPassedSet, bare_rule}
 
@@ -29,6 +29,13 @@ up_to rule k c = record rule { changes = if is_named rule.changes k c then rule.
 pub record IsAlone (xs : List Change) (c k : ℕ) : Type 0 where
   pub known : k < length xs
   pub becomes : (x : Change) (v : PartValue) → slice_index_or xs k x ≡ x → value_after xs c v ≡ updated x.update v
+
+-- Numbers of values of a component of the pool. What each of these values becomes is of the component's domain.
+pub record StaysIn (pool : List Values) (c : ℕ) (becomes : PartValue → PartValue) (numbers : Numbers) : Type 0 where
+  pub known : c < length pool
+  pub alike : numbers.domain ≡ domain_at pool c
+  pub listed : (n : ℕ) → IsTrue (has_number numbers n) → n < length (values_at pool c)
+  pub within : (v : PartValue) → IsTrue (is_member (plain_set (values_at pool c) numbers) v) → IsWithin (domain_at pool c) (becomes v)
 
 -- what the changes make of the entry's values of a component is of its domain, where the change at a place is the first that names it
 pub record StaysWithin (xs : List Change) (k : ℕ) (pool : List Values) (entry : NumberedEntry) : Type 0 where

@@ -2,8 +2,7 @@
 use Rattle.std.specs.{Prelude.{◌≡◌, ◌≢◌, ℕ, ◌<◌, ◌≤◌, ◌+◌, ◌&&◌, ◌||◌, Bool, false, List, [], length, map, slice_index_or, slice_set, IsTrue, is_some, Contains}, List.{list_any}}
 use Rattle.osek_values.specs.{Numbers.{task_no}, declared.numbers.TaskNo.{TaskNo}}
 use Rattle.osek_standard.specs.{declared.app.App.{App}, Internal.{internal_of}}
-use Rattle.abstract_state.specs.declared.value.Component.TheVariants as component
-use Rattle.abstract_state.specs.{declared.value.PartValue.{PartValue}, Concrete.{val_of}, Domains.{domain_of}}
+use Rattle.abstract_state.specs.{declared.value.PartValue.{PartValue}, Concrete.{val_of}, Domains.{IsWithin}}
 use Rattle.flow_model.specs.declared.change.Update.TheVariants as update
 use Rattle.flow_model.specs.{Values.{is_live_value, value_priority}, Tests.{updated}}
 use Rattle.numbered_sets.specs.{declared.numbered_entry.NumberedEntry.{NumberedEntry}, Numbers.{Numbers, has_number}, NumberedEntries.{numbers_at}}
@@ -47,6 +46,12 @@ pub record AreInside (vs : List PartValue) (x : Insides) : Type 0 where
   pub few : length x.numbers ≤ length vs
   pub each : (n : ℕ) (v : PartValue) → n < length x.numbers → IsNumberOf vs v n → IsNumberOf vs (updated update.Inside v) (slice_index_or x.numbers n 0)
 
+-- so it is of a task of the pool, whose values are of its domain inside too
+pub record MayComeIn (pool : List Values) (x : Insides) : Type 0 where
+  pub known : x.task.0 < length pool
+  pub within : (v : PartValue) → IsWithin (domain_at pool x.task.0) v → IsWithin (domain_at pool x.task.0) (updated update.Inside v)
+  pub insides : AreInside (values_at pool x.task.0) x
+
 abbrev pub inside_tasks : List Insides → List TaskNo
 inside_tasks insides = map (λ (x : Insides). x.task) insides
 
@@ -69,10 +74,6 @@ pub record AreInsides (app : App) (pool : List Values) (insides : List Insides) 
 -- none is missing
 abbrev pub AreAllInside : List Values → List Insides → Type 0
 AreAllInside pool insides = (i : ℕ) (d : Insides) → i < length insides → length (slice_index_or insides i d).numbers ≡ length (values_at pool (slice_index_or insides i d).task.0)
-
--- the values of each task are those of its domain
-abbrev pub HaveTaskDomains : App → List Values → Type 0
-HaveTaskDomains app pool = (t : ℕ) → t < length app.tasks → domain_at pool t ≡ domain_of app (component.Task (task_no t))
 
 module _ (app : App) (pool : List Values) (levels : Levels) where
   -- So it is for each task. Values that came in since the last time may be missing.

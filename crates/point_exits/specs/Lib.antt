@@ -11,6 +11,8 @@ pub mod OneProof
 pub mod Settling
 pub mod AfterEffect
 pub mod Leaving
+pub mod PointNumbers
+pub mod Growing
 pub mod Rows
 pub mod Starts
 pub mod Alternatives

@@ -3,14 +3,14 @@ use Rattle.std.specs.{Prelude.{◌≡◌, ℕ, List}, Coded.{Unit-prop, le_prop}
 use Rattle.std.proofs.Props.{props}
 use Rattle.osek_standard.specs.declared.app.App.{App}
 use Rattle.abstract_state.specs.declared.value.{Domain.{Domain}, PartValue.{PartValue}}
-use Rattle.flow_model.specs.declared.{case.{Asked.{Asked}, Stay.{Stay}, Leaving.{Leaving}}, runner.Runner.{Runner}}
+use Rattle.flow_model.specs.declared.{case.{Asked.{Asked}, Stay.{Stay}, Leaving.{Leaving}}, change.Change.{Change}, runner.Runner.{Runner}}
 use Rattle.flow_model.specs.declared.case.Asked.TheVariants as asked
 use Rattle.flow_model.specs.declared.case.Stay.TheVariants as stay
 use Rattle.flow_model.specs.declared.runner.Runner.TheVariants as runner
 use Rattle.flow_model.specs.{Runners.{IsRunnerOf}, Effects.{IsKnownStay}}
 use Rattle.numbered_sets.specs.{declared.numbered_entry.NumberedEntry.{NumberedEntry}, Pools.{Values}}
 use Rattle.point_exits.specs.declared.{arrivals.ArrivalsOver.{ArrivalsOver}, insides.Insides.{Insides}, levels.Levels.{Levels}, task_levels.{Level.{Level}, TaskLevels.{TaskLevels}}}
-use Rattle.point_exits.specs.{Arrivals.{AreKnownArrivals}, Levels.{IsLiveAt, AreTaskLevels, AreInsides, AreLevels, AreAllLevels}, Narrowing.{AreNeeds}, Deciding.{IsWhole, IsDecidable, IsAlive, IsAsked, IsLevelOf}}
+use Rattle.point_exits.specs.{Changing.{AreInOrder}, Arrivals.{AreKnownArrivals}, Levels.{IsLiveAt, AreTaskLevels, AreInsides, AreLevels, AreAllLevels}, Narrowing.{AreNeeds}, Deciding.{IsWhole, IsDecidable, IsAlive, IsAsked, IsLevelOf}}
 
 -- ---- entries
 
@@ -69,3 +69,8 @@ IsAsked-prop app pool entry asked.No = hlevel props
 IsAsked-prop app pool entry (asked.Maybe t) = IsAlive-prop app pool entry t.0
 IsAsked-prop app pool entry asked.Left = Unit-prop
 IsAsked-prop app pool entry asked.Free = Unit-prop
+
+-- ---- changes
+
+pub AreInOrder-prop : (A : Type 0) (xs : List Change) → IsProp (A → AreInOrder xs)
+AreInOrder-prop A xs = hlevel props

@@ -1,52 +1,59 @@
 //! The exits of cases that differ in one condition alone: they share all values but those of one component each.
-ghost use Rattle.std.specs.Prelude.{◌≡◌, ◌<◌, length, IfOk, OnOk, Contains};
-ghost use Rattle.flow_model.specs.declared.{case.EffectCase.{EffectCase}, test.Condition.{Condition}};
-ghost use Rattle.numbered_sets.specs.{Pools.{IsLonger}, Views.{plain_entry, AreNumbersOf}};
-ghost use Rattle.flow_effects.specs.Alternatives.{alternative_cases, AreApart};
-ghost use Rattle.flow_exits.specs.Leaving.{effect_rule};
-ghost use Rattle.point_exits.specs.{Levels.{AreLevels}, Applying.{KeepsDomains}, Groups.{AreKnownGroups}, Leaving.{AddsEffects}};
-ghost use Rattle.point_exits.specs.Alternatives.{HasOwnValues, ArePassingEnds};
+ghost use Rattle.std.specs.Prelude.{◌≡◌, ◌<◌, length, IfOk, Contains};
+ghost use Rattle.flow_model.specs.declared.test.Condition.{Condition};
+ghost use Rattle.numbered_sets.specs.Views.{AreNumbersOf};
+ghost use Rattle.point_exits.specs.Alternatives.{ArePassingEnds};
 
-use crate::before_effect::BeforeEffect;
 use crate::group::{Ends, ExitGroup, NumberEnd};
-use crate::levels::Levels;
+use crate::numbering::Numbering;
 use crate::settled::Settling;
 use abstract_state::Point;
 use flow_effects::Alternatives;
 use flow_model::{Condition, Decision, Stay};
-use numbered_sets::Pool;
+use numbered_sets::{NumberedEntry, Pool};
 use osek_values::{Memory, Seq};
 use std::alloc::Global;
 
-impl<'a> BeforeEffect<'a> {
+impl<'a> Numbering<'a> {
+    ghost use Rattle.std.specs.Prelude.{OnOk, Contains};
+    ghost use Rattle.flow_model.specs.declared.case.EffectCase.{EffectCase};
+    ghost use Rattle.numbered_sets.specs.Views.{plain_entry, AreNumbersOf};
+    ghost use Rattle.flow_effects.specs.Alternatives.{alternative_cases, AreApart};
+    ghost use Rattle.flow_exits.specs.Leaving.{effect_rule};
+    ghost use Rattle.point_exits.specs.{Alternatives.{HasOwnValues}, Applying.{KeepsDomains}, Groups.{AreKnownGroups}, Growing.{IsGrown}, Leaving.{AddsEffects}};
+
     /// Adds the exits of cases that differ in one condition alone, whose effect is looked at once: an end for each that passes.
     pub fn push_alternatives(
-        &self,
+        &mut self,
         alloc: Global,
+        before: &NumberedEntry,
         alternatives: &Alternatives,
-        pool: &mut Pool,
-        levels: &mut Levels,
         groups: &mut Vec<ExitGroup>,
     ) -> Result<(), Memory>
-        requires numbers { AreNumbersOf pool.old self.now.before.now }
-        requires own { HasOwnValues (plain_entry pool.old self.now.before.now) }
-        requires apart { AreApart self.now.app.now alternatives.now }
-        requires kept { (x : EffectCase) → Contains (alternative_cases alternatives.now) x → KeepsDomains (effect_rule x) (plain_entry pool.old self.now.before.now) }
-        requires levels { AreLevels self.now.app.now pool.old levels.old }
-        requires known { AreKnownGroups pool.old groups.old.items }
-        ensures pool { IsLonger pool.old pool.new }
-        ensures levels { OnOk result (AreLevels self.now.app.now pool.new levels.new) }
-        ensures added { OnOk result (AddsEffects self.now.app.now (plain_entry pool.old self.now.before.now) (alternative_cases alternatives.now) pool.old groups.old.items pool.new groups.new.items) }
+        requires numbers { AreNumbersOf self.old.pool before.now }
+        requires own { HasOwnValues (plain_entry self.old.pool before.now) }
+        requires apart { AreApart self.old.app.now alternatives.now }
+        requires kept { (x : EffectCase) → Contains (alternative_cases alternatives.now) x → KeepsDomains (effect_rule x) (plain_entry self.old.pool before.now) }
+        requires known { AreKnownGroups self.old.pool groups.old.items }
+        ensures grown { IsGrown self.old self.new }
+        ensures added { OnOk result (AddsEffects self.old.app.now (plain_entry self.old.pool before.now) (alternative_cases alternatives.now) self.old.pool groups.old.items self.new.pool groups.new.items) }
     {
+        let app = self.app;
         let leaving = alternatives.effect.leaving;
         let Stay::At(target) = leaving.stay else {
             return Ok(());
         };
-        let ends = self.passing_ends(alloc, &alternatives.conditions, target, pool)?;
+        let ends = passing_ends(
+            alloc,
+            before,
+            &alternatives.conditions,
+            target,
+            &mut self.pool,
+        )?;
         if ends.is_empty() {
             return Ok(());
         }
-        let Some(after) = self.after(alloc, &alternatives.effect, pool, levels)? else {
+        let Some(after) = self.after(alloc, before, &alternatives.effect)? else {
             return Ok(());
         };
         let mut group = ExitGroup {
@@ -56,45 +63,45 @@ impl<'a> BeforeEffect<'a> {
             ends: Ends::With(ends),
         };
         let settling = Settling {
-            app: self.app,
-            pool: &*pool,
-            levels: &*levels,
+            app,
+            pool: &self.pool,
+            levels: &self.levels,
             stay: leaving.stay,
         };
         settling.settle_group(alloc, &mut group)?;
         groups.push(group)?;
         Ok(())
     }
+}
 
-    // for each condition that some value passes an end with those that do
-    fn passing_ends(
-        &self,
-        alloc: Global,
-        conditions: &Seq<Condition>,
-        target: Point,
-        pool: &mut Pool,
-    ) -> Result<Seq<NumberEnd>, Memory>
-        requires numbers { AreNumbersOf pool.old self.now.before.now }
-        requires known { (y : Condition) → Contains conditions.now y → y.component.0 < length self.now.before.now.sets }
-        ensures same { pool.new ≡ pool.old }
-        ensures ends { IfOk result (ArePassingEnds pool.old self.now.before.now conditions.now target) }
-    {
-        let mut entry = self.before.copy(alloc)?;
-        let mut ends = Seq::new(alloc);
-        for condition in conditions.as_slice() {
-            let component = condition.component.index();
-            let own = entry.sets.set(alloc, component)?;
-            pool.keep_passing(alloc, component, &condition.test, &mut entry)?;
-            let numbers = entry.sets.set(alloc, component)?;
-            entry.sets.put(component, &own)?;
-            if !numbers.is_empty() {
-                ends.push(NumberEnd {
-                    component,
-                    numbers,
-                    target,
-                })?;
-            }
+// for each condition that some value passes an end with those that do
+fn passing_ends(
+    alloc: Global,
+    before: &NumberedEntry,
+    conditions: &Seq<Condition>,
+    target: Point,
+    pool: &mut Pool,
+) -> Result<Seq<NumberEnd>, Memory>
+    requires numbers { AreNumbersOf pool.old before.now }
+    requires known { (y : Condition) → Contains conditions.now y → y.component.0 < length before.now.sets }
+    ensures same { pool.new ≡ pool.old }
+    ensures ends { IfOk result (ArePassingEnds pool.old before.now conditions.now target) }
+{
+    let mut entry = before.copy(alloc)?;
+    let mut ends = Seq::new(alloc);
+    for condition in conditions.as_slice() {
+        let component = condition.component.index();
+        let own = entry.sets.set(alloc, component)?;
+        pool.keep_passing(alloc, component, &condition.test, &mut entry)?;
+        let numbers = entry.sets.set(alloc, component)?;
+        entry.sets.put(component, &own)?;
+        if !numbers.is_empty() {
+            ends.push(NumberEnd {
+                component,
+                numbers,
+                target,
+            })?;
         }
-        Ok(ends)
     }
+    Ok(ends)
 }

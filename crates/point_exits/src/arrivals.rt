@@ -3,16 +3,16 @@ ghost use Rattle.std.specs.Prelude.{◌≡◌, true, List, length, OnOk};
 ghost use Rattle.osek_standard.specs.declared.{app.App.{App}, point.Point.{Point}};
 ghost use Rattle.abstract_state.specs.Domains.{domains_of};
 ghost use Rattle.flow_model.specs.declared.rule.Rule.{Rule};
-ghost use Rattle.numbered_sets.specs.{NumberedEntries.{number_domains, AreFilled}, Pools.{Values, IsLonger}};
+ghost use Rattle.numbered_sets.specs.{NumberedEntries.{number_domains}, Pools.{Values, IsLonger}};
 ghost use Rattle.numbered_sets.specs.Views.{plain_entry, AreNumbersOf};
 ghost use Rattle.flow_exits.specs.Arrivals.{IsArrivalRule, AreArrivals};
-ghost use Rattle.point_exits.specs.{Applying.{KeepsDomains}, Groups.{AreKnownGroups}, OneProof.{SameDomains-prop}};
+ghost use Rattle.point_exits.specs.{Applying.{MayApply}, Groups.{AreKnownGroups}, OneProof.{SameDomains-prop}};
 ghost use Rattle.point_exits.specs.Leaving.{AddsRoutines, IsAmongFirst, AreSharedEnds, is_bare as is_bare_of};
 
 use crate::bare_rule::BareRule;
 use crate::changes::apply;
 use crate::group::{Ends, ExitGroup, NumberEnd};
-use crate::levels::Levels;
+use crate::numbering::Numbering;
 use abstract_state::Point;
 use flow_exits::{arrivals, arrivals_over};
 use flow_model::{Rule, Runner};
@@ -42,11 +42,10 @@ pub struct NumberedPoint<'a> {
     pub point: Point,
     pub entry: &'a NumberedEntry,
     ghost domains: { number_domains entry.now ≡ domains_of app.now } by { SameDomains-prop (number_domains entry.now) (domains_of app.now) },
-    ghost filled: { AreFilled entry.now },
 }
 
 impl Arrivals {
-    ghost use Rattle.std.specs.Prelude.{◌<◌, IfOk, OnOk, IfSome};
+    ghost use Rattle.std.specs.Prelude.{◌<◌, IfOk, IfSome};
     ghost use Rattle.osek_standard.specs.{Apps.{source_count}, Points.{IsPoint}};
     ghost use Rattle.point_exits.specs.Arrivals.{AreKnownArrivals, AreArrivalsAt, IsOver};
 
@@ -54,7 +53,7 @@ impl Arrivals {
     pub fn find(&mut self, alloc: Global, app: &App, point: Point) -> Result<Option<usize>, Memory>
         requires point { IsPoint app.now point }
         requires known { AreKnownArrivals app.now self.old.known }
-        ensures known { OnOk result (AreKnownArrivals app.now self.new.known) }
+        ensures known { AreKnownArrivals app.now self.new.known }
         ensures found { IfOk result (λ place. IfSome place (AreArrivalsAt app.now point self.new.known)) }
     {
         match point {
@@ -100,7 +99,7 @@ impl Arrivals {
     ) -> Result<usize, Memory>
         requires running { IfSome running (λ k. k.0 < source_count app.now) }
         requires known { AreKnownArrivals app.now self.old.known }
-        ensures known { OnOk result (AreKnownArrivals app.now self.new.known) }
+        ensures known { AreKnownArrivals app.now self.new.known }
         ensures found { IfOk result (IsOver over running self.new.known) }
     {
         for place in 0..self.known.len() {
@@ -119,43 +118,44 @@ impl Arrivals {
     }
 }
 
-impl<'a> NumberedPoint<'a> {
-    ghost use Rattle.std.specs.Prelude.{◌≡◌, OnOk};
-    ghost use Rattle.osek_standard.specs.Points.{IsPoint};
-    ghost use Rattle.flow_model.specs.Effects.{AreAllAllowed};
-    ghost use Rattle.numbered_sets.specs.{Pools.{IsLonger}, Views.{plain_entry, AreNumbersOf}};
-    ghost use Rattle.flow_exits.specs.Arrivals.{AreArrivals};
-    ghost use Rattle.point_exits.specs.{Levels.{AreLevels}, Groups.{AreKnownGroups}, Leaving.{AddsArrivals}};
+impl<'a> Numbering<'a> {
+    ghost use Rattle.std.specs.Prelude.{OnOk};
+    ghost use Rattle.numbered_sets.specs.Views.{plain_entry};
+    ghost use Rattle.point_exits.specs.{Groups.{AreKnownGroups}, Growing.{IsGrown}, Leaving.{AddsArrivals}, PointNumbers.{AreNumbersAt}};
 
-    /// Adds the exits by which routines begin, each with what its rule makes of the values that pass. The pool grows by the
-    /// values that it lacks, also where memory is wanted.
+    /// Adds the exits by which routines begin, each with what its rule makes of the values that pass.
     pub fn push_arrivals(
-        &self,
+        &mut self,
         alloc: Global,
-        pool: &mut Pool,
-        levels: &mut Levels,
+        point: Point,
+        entry: &NumberedEntry,
         groups: &mut Vec<ExitGroup>,
     ) -> Result<(), Memory>
-        requires point { IsPoint self.now.app.now self.now.point }
-        requires numbers { AreNumbersOf pool.old self.now.entry.now }
-        requires allowed { AreAllAllowed self.now.app.now self.now.point (plain_entry pool.old self.now.entry.now) }
-        requires levels { AreLevels self.now.app.now pool.old levels.old }
-        requires known { AreKnownGroups pool.old groups.old.items }
-        ensures pool { IsLonger pool.old pool.new }
-        ensures levels { OnOk result (AreLevels self.now.app.now pool.new levels.new) }
-        ensures added { OnOk result (AddsArrivals self.now.app.now self.now.point (plain_entry pool.old self.now.entry.now) pool.old groups.old.items pool.new groups.new.items) }
+        requires at { AreNumbersAt self.old.app.now point self.old.pool entry.now }
+        requires known { AreKnownGroups self.old.pool groups.old.items }
+        ensures grown { IsGrown self.old self.new }
+        ensures added { OnOk result (AddsArrivals self.old.app.now point (plain_entry self.old.pool entry.now) self.old.pool groups.old.items self.new.pool groups.new.items) }
     {
-        match levels.arrivals.find(alloc, self.app, self.point)? {
+        let app = self.app;
+        let from = NumberedPoint { app, point, entry };
+        match self.levels.arrivals.find(alloc, app, point)? {
             Some(place) => {
-                let rules = &levels.arrivals.known.at(place).rules;
-                self.push_begun(alloc, rules, pool, groups)
+                let rules = &self.levels.arrivals.known.at(place).rules;
+                from.push_begun(alloc, rules, &mut self.pool, groups)
             }
             None => {
-                let rules = arrivals(alloc, self.app, self.point)?;
-                self.push_begun(alloc, &rules, pool, groups)
+                let rules = arrivals(alloc, app, point)?;
+                from.push_begun(alloc, &rules, &mut self.pool, groups)
             }
         }
     }
+}
+
+impl<'a> NumberedPoint<'a> {
+    ghost use Rattle.std.specs.Prelude.{OnOk};
+    ghost use Rattle.numbered_sets.specs.{Pools.{IsLonger}, Views.{plain_entry}};
+    ghost use Rattle.flow_exits.specs.Arrivals.{AreArrivals};
+    ghost use Rattle.point_exits.specs.{Groups.{AreKnownGroups}, Leaving.{AddsArrivals}, PointNumbers.{AreNumbersAt}};
 
     // adds the exits by these rules, which are all by which routines begin
     fn push_begun(
@@ -165,10 +165,8 @@ impl<'a> NumberedPoint<'a> {
         pool: &mut Pool,
         groups: &mut Vec<ExitGroup>,
     ) -> Result<(), Memory>
-        requires point { IsPoint self.now.app.now self.now.point }
+        requires at { AreNumbersAt self.now.app.now self.now.point pool.old self.now.entry.now }
         requires rules { AreArrivals self.now.app.now self.now.point rules.now }
-        requires numbers { AreNumbersOf pool.old self.now.entry.now }
-        requires allowed { AreAllAllowed self.now.app.now self.now.point (plain_entry pool.old self.now.entry.now) }
         requires known { AreKnownGroups pool.old groups.old.items }
         ensures pool { IsLonger pool.old pool.new }
         ensures added { OnOk result (AddsArrivals self.now.app.now self.now.point (plain_entry pool.old self.now.entry.now) pool.old groups.old.items pool.new groups.new.items) }
@@ -199,8 +197,7 @@ fn push_arrival(
     entry: &NumberedEntry,
     groups: &mut Vec<ExitGroup>,
 ) -> Result<(), Memory>
-    requires numbers { AreNumbersOf pool.old entry.now }
-    requires kept { KeepsDomains rule.now (plain_entry pool.old entry.now) }
+    requires rule { MayApply rule.now pool.old entry.now }
     requires known { AreKnownGroups pool.old groups.old.items }
     ensures pool { IsLonger pool.old pool.new }
     ensures added { OnOk result ((app : App) (p : Point) → IsArrivalRule app p rule.now → number_domains entry.now ≡ domains_of app →

@@ -24,8 +24,8 @@ pub struct BareRule<'a> {
 
 impl<'a> BareRule<'a> {
     ghost use Rattle.std.specs.Prelude.{IfOk, OnOk, IfSome};
-    ghost use Rattle.numbered_sets.specs.{Pools.{IsLonger}, Views.{plain_entry, AreNumbersOf}};
-    ghost use Rattle.point_exits.specs.{Applying.{KeepsDomains}, Leaving.{AddsEnd, IsSetEnd}};
+    ghost use Rattle.numbered_sets.specs.{Pools.{IsLonger}, Views.{AreNumbersOf}};
+    ghost use Rattle.point_exits.specs.{Applying.{MayApply}, Leaving.{AddsEnd, IsSetEnd}};
 
     /// Adds what it makes of the component that it changes.
     pub fn push_end(
@@ -34,8 +34,7 @@ impl<'a> BareRule<'a> {
         pool: &mut Pool,
         shared: &mut Seq<NumberEnd>,
     ) -> Result<(), Memory>
-        requires numbers { AreNumbersOf pool.old self.now.entry.now }
-        requires kept { KeepsDomains self.now.rule.now (plain_entry pool.old self.now.entry.now) }
+        requires { MayApply self.now.rule.now pool.old self.now.entry.now }
         ensures pool { IsLonger pool.old pool.new }
         ensures added { OnOk result (AddsEnd self.now.rule.now self.now.entry.now pool.old shared.old pool.new shared.new) }
     {
@@ -73,8 +72,7 @@ impl<'a> BareRule<'a> {
         pool: &mut Pool,
         shared: &mut Seq<NumberEnd>,
     ) -> Result<(), Memory>
-        requires numbers { AreNumbersOf pool.old self.now.entry.now }
-        requires kept { KeepsDomains self.now.rule.now (plain_entry pool.old self.now.entry.now) }
+        requires { MayApply self.now.rule.now pool.old self.now.entry.now }
         ensures pool { IsLonger pool.old pool.new }
         ensures added { OnOk result (AddsEnd self.now.rule.now self.now.entry.now pool.old shared.old pool.new shared.new) }
     {

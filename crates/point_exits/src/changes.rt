@@ -1,15 +1,14 @@
 //! What changes make of the values of a numbered entry that pass conditions.
-ghost use Rattle.std.specs.Prelude.{◌≡◌, ◌<◌, ◌≤◌, ◌+◌, List, length, slice_index_or, false, IfOk, OnOk, IfSome, IfNone, [], ◌∷◌, ◌++◌, IsTrue, ℕ};
+ghost use Rattle.std.specs.Prelude.{◌≡◌, ◌<◌, ◌≤◌, true, List, length, IfOk, OnOk, IfSome, IfNone, [], ◌∷◌, ◌++◌};
 ghost use Rattle.std.specs.Bool.{OnTrue, OnFalse};
 ghost use Rattle.flow_model.specs.{declared.{test.Condition.{Condition}, change.Change.{Change}}, Rules.{Applies, HasNone}};
 ghost use Rattle.flow_model.specs.Tests.{value_after as value_after_of};
-ghost use Rattle.numbered_sets.specs.{declared.numbered_entry.NumberedEntry.{NumberedEntry}, NumberedEntries.{number_domains, AreFilled, HasEmptySet}};
-ghost use Rattle.numbered_sets.specs.{Pools.{Values, IsLonger, values_at, domain_at, IsNumberOf}, Views.{plain_entry, AreNumbersOf, plain_set}};
-ghost use Rattle.numbered_sets.specs.Numbers.{has_number};
-ghost use Rattle.point_exits.specs.Applying.{KeepsDomains, bare_rule, IsPassedSet, IsPassedSoFar};
-ghost use Rattle.point_exits.specs.Changing.{is_named as is_named_of, up_to, AreInOrder, IsAlone, StaysWithin, AreAllPassed, making};
+ghost use Rattle.numbered_sets.specs.NumberedEntries.{number_domains, AreFilled, HasEmptySet};
+ghost use Rattle.numbered_sets.specs.{Pools.{Values, IsLonger, values_at, domain_at, IsNumberOf}, Views.{plain_entry, AreNumbersOf}};
+ghost use Rattle.point_exits.specs.Applying.{KeepsDomains, MayApply, bare_rule, IsPassedSet, IsPassedSoFar};
+ghost use Rattle.point_exits.specs.{Changing.{is_named as is_named_of, AreInOrder, IsAlone, StaysIn, making}, OneProof.{AreInOrder-prop}};
 ghost use Rattle.point_exits.specs.Sifting.{AreSifted, LeavesNone};
-ghost use Rattle.abstract_state.specs.{declared.value.{Domain.{Domain}, PartValue.{PartValue}}, Domains.{IsWithin}, Tables.{is_member}};
+ghost use Rattle.abstract_state.specs.{declared.value.{Domain.{Domain}, PartValue.{PartValue}}, Domains.{IsWithin}};
 
 use abstract_state::PartValue;
 use flow_model::{Change, Condition, Rule, Test, Update, value_after};
@@ -43,8 +42,7 @@ pub fn applied(
     pool: &mut Pool,
     entry: &NumberedEntry,
 ) -> Result<Option<NumberedEntry>, Memory>
-    requires numbers { AreNumbersOf pool.old entry.now }
-    requires domains { KeepsDomains (bare_rule conditions.now changes.now) (plain_entry pool.old entry.now) }
+    requires { MayApply (bare_rule conditions.now changes.now) pool.old entry.now }
     ensures pool { IsLonger pool.old pool.new }
     ensures numbers { IfOk result (λ new. IfSome new (AreNumbersOf pool.new)) }
     ensures some { IfOk result (λ new. IfSome new (λ new. Applies (bare_rule conditions.now changes.now) (plain_entry pool.old entry.now) (plain_entry pool.new new))) }
@@ -60,7 +58,12 @@ pub fn applied(
     }
     let in_order = are_in_order(changes.as_slice());
     for place in 0..changes.len() {
-        change(alloc, changes, place, in_order, pool, &mut made)?;
+        let placed = PlacedChange {
+            changes,
+            place,
+            in_order,
+        };
+        placed.make(alloc, pool, &mut made)?;
     }
     Ok(Some(made))
 }
@@ -77,66 +80,70 @@ fn are_in_order(changes: &[Change]) -> bool
     true
 }
 
-// Does to an entry what all changes of one component say, where the change at a place is the first that names it. Of changes in
-// order it is the only one.
-fn change(
-    alloc: Global,
-    changes: &Seq<Change>,
+/// A change by its place in a list, of which it may be known that it is in the order of its components.
+#[derive(Clone, Copy)]
+struct PlacedChange<'a> {
+    changes: &'a Seq<Change>,
     place: usize,
     in_order: bool,
-    pool: &mut Pool,
-    entry: &mut NumberedEntry,
-) -> Result<(), Memory>
-    requires known { place < length changes.now }
-    requires order { OnTrue in_order (AreInOrder changes.now) }
-    requires numbers { AreNumbersOf pool.old entry.old }
-    requires domain { StaysWithin changes.now place pool.old entry.old }
-    ensures pool { IsLonger pool.old pool.new }
-    ensures alike { number_domains entry.new ≡ number_domains entry.old }
-    ensures passed { OnOk result ((conditions : List Condition) (before : List Values) (was : NumberedEntry) → AreAllPassed (up_to (bare_rule conditions changes.now) place) before was (length was.sets) pool.old entry.old.sets →
-        AreAllPassed (up_to (bare_rule conditions changes.now) (place + 1)) before was (length was.sets) pool.new entry.new.sets) }
-{
-    let component = changes.at(place).component.index();
-    if component >= entry.sets.len() || was_named(changes, place, component, in_order) {
-        return Ok(());
-    }
-    let alone = alone(changes, place, component, in_order);
-    let numbers = entry.sets.set(alloc, component)?;
-    let set = updated(alloc, changes, alone, pool, component, &numbers)?;
-    entry.sets.put(component, &set)?;
-    Ok(())
+    ghost known: { place < length changes.now },
+    ghost order: { in_order ≡ true → AreInOrder changes.now } by { AreInOrder-prop (in_order ≡ true) changes.now },
 }
 
-// whether an earlier change names the component of the change at a place too
-fn was_named(changes: &Seq<Change>, place: usize, component: usize, in_order: bool) -> bool
-    requires known { place < length changes.now }
-    requires order { OnTrue in_order (AreInOrder changes.now) }
-    requires named { (x : Change) → slice_index_or changes.now place x ≡ x → x.component.0 ≡ component }
-    ensures { result ≡ is_named_of changes.now place component }
-{
-    if in_order {
-        return false;
-    }
-    is_named(changes.as_slice(), place, component)
-}
+impl<'a> PlacedChange<'a> {
+    ghost use Rattle.std.specs.Prelude.{◌≡◌, ◌<◌, ◌+◌, length, slice_index_or, false, List, OnOk, IfSome};
+    ghost use Rattle.flow_model.specs.declared.{change.Change.{Change}, test.Condition.{Condition}};
+    ghost use Rattle.numbered_sets.specs.{declared.numbered_entry.NumberedEntry.{NumberedEntry}, NumberedEntries.{number_domains}, Pools.{Values, IsLonger}, Views.{AreNumbersOf}};
+    ghost use Rattle.point_exits.specs.{Applying.{bare_rule}, Changing.{is_named as is_named_of, up_to, IsAlone, StaysWithin, AreAllPassed}};
 
-// the place, if no later change names the component of the change there too
-fn alone(changes: &Seq<Change>, place: usize, component: usize, in_order: bool) -> Option<usize>
-    requires known { place < length changes.now }
-    requires order { OnTrue in_order (AreInOrder changes.now) }
-    requires named { (x : Change) → slice_index_or changes.now place x ≡ x → x.component.0 ≡ component }
-    requires first { is_named_of changes.now place component ≡ false }
-    ensures { IfSome result (IsAlone changes.now component) }
-{
-    if in_order {
-        return Some(place);
+    // Does to an entry what all changes of one component say, where this is the first that names it. Of changes in order it is
+    // the only one.
+    fn make(&self, alloc: Global, pool: &mut Pool, entry: &mut NumberedEntry) -> Result<(), Memory>
+        requires numbers { AreNumbersOf pool.old entry.old }
+        requires domain { StaysWithin self.now.changes.now self.now.place pool.old entry.old }
+        ensures pool { IsLonger pool.old pool.new }
+        ensures alike { number_domains entry.new ≡ number_domains entry.old }
+        ensures passed { OnOk result ((conditions : List Condition) (before : List Values) (was : NumberedEntry) → AreAllPassed (up_to (bare_rule conditions self.now.changes.now) self.now.place) before was (length was.sets) pool.old entry.old.sets →
+            AreAllPassed (up_to (bare_rule conditions self.now.changes.now) (self.now.place + 1)) before was (length was.sets) pool.new entry.new.sets) }
+    {
+        let component = self.changes.at(self.place).component.index();
+        if component >= entry.sets.len() || self.was_named(component) {
+            return Ok(());
+        }
+        let alone = self.alone(component);
+        let numbers = entry.sets.set(alloc, component)?;
+        let set = updated(alloc, self.changes, alone, pool, component, &numbers)?;
+        entry.sets.put(component, &set)?;
+        Ok(())
     }
-    let count = changes.len();
-    let later = &changes.as_slice()[place + 1..count];
-    if is_named(later, later.len(), component) {
-        return None;
+
+    // whether an earlier change names its component too
+    fn was_named(&self, component: usize) -> bool
+        requires { (x : Change) → slice_index_or self.now.changes.now self.now.place x ≡ x → x.component.0 ≡ component }
+        ensures { result ≡ is_named_of self.now.changes.now self.now.place component }
+    {
+        if self.in_order {
+            return false;
+        }
+        is_named(self.changes.as_slice(), self.place, component)
     }
-    Some(place)
+
+    // its place, if no later change names its component too
+    fn alone(&self, component: usize) -> Option<usize>
+        requires named { (x : Change) → slice_index_or self.now.changes.now self.now.place x ≡ x → x.component.0 ≡ component }
+        requires first { is_named_of self.now.changes.now self.now.place component ≡ false }
+        ensures { IfSome result (IsAlone self.now.changes.now component) }
+    {
+        if self.in_order {
+            return Some(self.place);
+        }
+        let count = self.changes.len();
+        let later = &self.changes.as_slice()[self.place + 1..count];
+        if is_named(later, later.len(), component) {
+            return None;
+        }
+        Some(self.place)
+    }
 }
 
 // whether a change before a place names a component
@@ -255,10 +262,7 @@ pub fn updated(
     numbers: &NumberedSet,
 ) -> Result<NumberedSet, Memory>
     requires alone { IfSome alone (IsAlone changes.now component) }
-    requires known { component < length pool.old }
-    requires alike { numbers.now.domain ≡ domain_at pool.old component }
-    requires numbers { (n : ℕ) → IsTrue (has_number numbers.now n) → n < length (values_at pool.old component) }
-    requires domain { (v : PartValue) → IsTrue (is_member (plain_set (values_at pool.old component) numbers.now) v) → IsWithin (domain_at pool.old component) (value_after_of changes.now component v) }
+    requires set { StaysIn pool.old component (value_after_of changes.now component) numbers.now }
     ensures pool { IsLonger pool.old pool.new }
     ensures passed { IfOk result (IsPassedSet (making changes.now) pool.old component numbers.now pool.new) }
 {
@@ -279,9 +283,7 @@ fn replaced(
     component: usize,
     numbers: &NumberedSet,
 ) -> Result<NumberedSet, Memory>
-    requires known { component < length pool.old }
-    requires numbers { (n : ℕ) → IsTrue (has_number numbers.now n) → n < length (values_at pool.old component) }
-    requires domain { (v : PartValue) → IsTrue (is_member (plain_set (values_at pool.old component) numbers.now) v) → IsWithin (domain_at pool.old component) to.now }
+    requires { StaysIn pool.old component (λ v. to.now) numbers.now }
     ensures pool { IsLonger pool.old pool.new }
     ensures passed { IfOk result (λ set. (changes : List Change) → ((v : PartValue) → value_after_of changes component v ≡ to.now) → IsPassedSet (making changes) pool.old component numbers.now pool.new set) }
 {
@@ -302,10 +304,7 @@ fn moved(
     component: usize,
     numbers: &NumberedSet,
 ) -> Result<NumberedSet, Memory>
-    requires known { component < length pool.old }
-    requires alike { numbers.now.domain ≡ domain_at pool.old component }
-    requires numbers { (n : ℕ) → IsTrue (has_number numbers.now n) → n < length (values_at pool.old component) }
-    requires domain { (v : PartValue) → IsTrue (is_member (plain_set (values_at pool.old component) numbers.now) v) → IsWithin (domain_at pool.old component) (value_after_of changes.now component v) }
+    requires { StaysIn pool.old component (value_after_of changes.now component) numbers.now }
     ensures pool { IsLonger pool.old pool.new }
     ensures passed { IfOk result (IsPassedSet (making changes.now) pool.old component numbers.now pool.new) }
 {

@@ -1,52 +1,36 @@
 //! All exits of a point.
-ghost use Rattle.std.specs.Prelude.{◌≡◌, IfOk, OnOk};
-ghost use Rattle.osek_standard.specs.Points.{IsPoint};
-ghost use Rattle.abstract_state.specs.Domains.{domains_of};
-ghost use Rattle.flow_model.specs.Effects.{AreAllAllowed};
-ghost use Rattle.numbered_sets.specs.{NumberedEntries.{number_domains, AreFilled}, Pools.{IsLonger}, Views.{plain_entry, AreNumbersOf}};
+ghost use Rattle.std.specs.Prelude.{IfOk};
+ghost use Rattle.numbered_sets.specs.Views.{plain_entry};
 ghost use Rattle.flow_exits.specs.Leaving.{AreExits};
-ghost use Rattle.point_exits.specs.{Levels.{AreLevels}, Groups.{all_exits, AreKnownGroups}};
+ghost use Rattle.point_exits.specs.{Groups.{all_exits, AreKnownGroups}, Growing.{IsGrown}, PointNumbers.{AreNumbersAt}};
 
-use crate::arrivals::NumberedPoint;
-use crate::before_effect::BeforeEffect;
 use crate::group::ExitGroup;
-use crate::levels::Levels;
+use crate::numbering::Numbering;
 use abstract_state::Point;
 use flow_model::Runner;
-use numbered_sets::{NumberedEntry, Pool};
-use osek_standard::App;
+use numbered_sets::NumberedEntry;
 use osek_values::Memory;
 use std::alloc::Global;
 
-/// The exits of a point with these numbers, of which each component has one. The pool grows by the values that it lacks, and
-/// the levels with it, also where memory is wanted.
+/// The exits of a point with these numbers, of which each component has one. The numbering grows by the values that it lacks.
 pub fn exit_groups(
     alloc: Global,
-    app: &App,
+    numbering: &mut Numbering,
     point: Point,
     entry: &NumberedEntry,
-    pool: &mut Pool,
-    levels: &mut Levels,
 ) -> Result<Vec<ExitGroup>, Memory>
-    requires point { IsPoint app.now point }
-    requires numbers { AreNumbersOf pool.old entry.now }
-    requires domains { number_domains entry.now ≡ domains_of app.now }
-    requires filled { AreFilled entry.now }
-    requires allowed { AreAllAllowed app.now point (plain_entry pool.old entry.now) }
-    requires levels { AreLevels app.now pool.old levels.old }
-    ensures pool { IsLonger pool.old pool.new }
-    ensures levels { OnOk result (AreLevels app.now pool.new levels.new) }
-    ensures known { IfOk result (λ groups. AreKnownGroups pool.new groups.items) }
-    ensures exits { IfOk result (λ groups. AreExits app.now point (plain_entry pool.old entry.now) (all_exits pool.new groups.items)) }
+    requires { AreNumbersAt numbering.old.app.now point numbering.old.pool entry.now }
+    ensures grown { IsGrown numbering.old numbering.new }
+    ensures known { IfOk result (λ groups. AreKnownGroups numbering.new.pool groups.items) }
+    ensures exits { IfOk result (λ groups. AreExits numbering.old.app.now point (plain_entry numbering.old.pool entry.now) (all_exits numbering.new.pool groups.items)) }
 {
+    let app = numbering.app;
     let mut groups = Vec::new(alloc);
-    let from = NumberedPoint { app, point, entry };
-    from.push_arrivals(alloc, pool, levels, &mut groups)?;
+    numbering.push_arrivals(alloc, point, entry, &mut groups)?;
     match Runner::executing(app, point) {
         None => Ok(groups),
         Some(_) => {
-            let before = BeforeEffect { app, before: entry };
-            before.push_instructions(alloc, point, pool, levels, &mut groups)?;
+            numbering.push_instructions(alloc, point, entry, &mut groups)?;
             Ok(groups)
         }
     }

@@ -16,22 +16,20 @@ pub struct Insides {
 
 impl Insides {
     ghost use Rattle.std.specs.Prelude.{ℕ, List, ◌≡◌, ◌≢◌, ◌<◌, ◌≤◌, ◌==◌, length, slice_set, IfOk, OnOk};
-    ghost use Rattle.abstract_state.specs.{declared.value.PartValue.{PartValue}, Domains.{IsWithin}};
+    ghost use Rattle.abstract_state.specs.declared.value.PartValue.{PartValue};
     ghost use Rattle.flow_model.specs.declared.change.Update.TheVariants as updates;
     ghost use Rattle.flow_model.specs.Tests.{updated};
-    ghost use Rattle.numbered_sets.specs.{NumberedEntries.{numbers_at}, Pools.{Values, values_at, domain_at, IsNumberOf, IsLonger}};
+    ghost use Rattle.numbered_sets.specs.{NumberedEntries.{numbers_at}, Pools.{Values, values_at, IsNumberOf, IsLonger}};
     ghost use Rattle.numbered_sets.specs.Made.{AreMade};
-    ghost use Rattle.point_exits.specs.{Levels.{AreInside}, Settling.{IsSettledEnd, AreSettledEach, AreSettledEnds, IsSettledBy}};
+    ghost use Rattle.point_exits.specs.{Levels.{AreInside, MayComeIn}, Settling.{IsSettledEnd, AreSettledEach, AreSettledEnds, IsSettledBy}};
 
     /// Brings in the values inside of those that came in since the last time.
     pub fn renew(&mut self, pool: &mut Pool) -> Result<(), Memory>
-        requires known { self.old.task.0 < length pool.old }
-        requires within { (v : PartValue) → IsWithin (domain_at pool.old self.old.task.0) v → IsWithin (domain_at pool.old self.old.task.0) (updated updates.Inside v) }
-        requires insides { AreInside (values_at pool.old self.old.task.0) self.old }
+        requires { MayComeIn pool.old self.old }
         ensures pool { IsLonger pool.old pool.new }
         ensures others { OnOk result ((c : ℕ) → c ≢ self.old.task.0 → values_at pool.new c ≡ values_at pool.old c) }
-        ensures task { OnOk result (self.new.task ≡ self.old.task) }
-        ensures insides { OnOk result (AreInside (values_at pool.new self.old.task.0) self.new) }
+        ensures task { self.new.task ≡ self.old.task }
+        ensures insides { AreInside (values_at pool.new self.old.task.0) self.new }
         ensures all { OnOk result (length self.new.numbers ≡ length (values_at pool.new self.old.task.0)) }
     {
         let component = self.task.index();
@@ -41,13 +39,11 @@ impl Insides {
 
     // brings in those of the values that came in; what comes in by that is inside
     fn bring_in(&mut self, pool: &mut Pool) -> Result<(), Memory>
-        requires known { self.old.task.0 < length pool.old }
-        requires within { (v : PartValue) → IsWithin (domain_at pool.old self.old.task.0) v → IsWithin (domain_at pool.old self.old.task.0) (updated updates.Inside v) }
-        requires insides { AreInside (values_at pool.old self.old.task.0) self.old }
+        requires { MayComeIn pool.old self.old }
         ensures pool { IsLonger pool.old pool.new }
         ensures others { OnOk result ((c : ℕ) → c ≢ self.old.task.0 → values_at pool.new c ≡ values_at pool.old c) }
-        ensures task { OnOk result (self.new.task ≡ self.old.task) }
-        ensures insides { OnOk result (AreInside (values_at pool.new self.old.task.0) self.new) }
+        ensures task { self.new.task ≡ self.old.task }
+        ensures insides { AreInside (values_at pool.new self.old.task.0) self.new }
         ensures first { OnOk result (length self.new.numbers ≡ length (values_at pool.old self.old.task.0)) }
         ensures rest { OnOk result ((n : ℕ) (v : PartValue) → length (values_at pool.old self.old.task.0) ≤ n → IsNumberOf (values_at pool.new self.old.task.0) v n → updated updates.Inside v ≡ v) }
     {
@@ -65,9 +61,9 @@ impl Insides {
     // the other values are inside themselves
     fn go_on_to(&mut self, count: usize) -> Result<(), Memory>
         requires { length self.old.numbers ≤ count }
-        ensures task { OnOk result (self.new.task ≡ self.old.task) }
-        ensures insides { OnOk result ((vs : List PartValue) → count ≡ length vs → AreInside vs self.old →
-            ((n : ℕ) (v : PartValue) → length self.old.numbers ≤ n → IsNumberOf vs v n → updated updates.Inside v ≡ v) → AreInside vs self.new) }
+        ensures task { self.new.task ≡ self.old.task }
+        ensures insides { (vs : List PartValue) → count ≡ length vs → AreInside vs self.old →
+            ((n : ℕ) (v : PartValue) → length self.old.numbers ≤ n → IsNumberOf vs v n → updated updates.Inside v ≡ v) → AreInside vs self.new }
         ensures all { OnOk result (length self.new.numbers ≡ count) }
     {
         for number in self.numbers.len()..count {

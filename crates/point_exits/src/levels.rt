@@ -20,48 +20,17 @@ pub struct Levels {
 }
 
 impl Levels {
-    ghost use Rattle.std.specs.Prelude.{◌≡◌, ◌<◌, ◌≤◌, length, slice_index_or, IfOk, OnOk};
-    ghost use Rattle.numbered_sets.specs.Pools.{IsLonger};
-    ghost use Rattle.point_exits.specs.{declared.task_levels.TaskLevels.{TaskLevels}, Levels.{HaveTaskDomains, AreAllInside, AreLevels, AreAllLevels}};
+    ghost use Rattle.std.specs.Prelude.{◌≡◌, ◌<◌, length, slice_index_or, OnOk};
+    ghost use Rattle.abstract_state.specs.Domains.{domains_of};
+    ghost use Rattle.numbered_sets.specs.Pools.{pool_domains, IsLonger};
+    ghost use Rattle.point_exits.specs.{declared.task_levels.TaskLevels.{TaskLevels}, Levels.{AreAllInside, AreLevels, AreAllLevels}};
 
-    /// No value was judged yet, and no rule is kept.
-    pub fn new(alloc: Global, app: &App, pool: &Pool) -> Result<Levels, Memory>
-        requires { length app.now.tasks ≤ length pool.now }
-        ensures { IfOk result (AreLevels app.now pool.now) }
-    {
-        let mut tasks = Seq::new(alloc);
-        for task in 0..app.tasks.len() {
-            tasks.push(TaskLevels::new(alloc, pool.domain(task)))?;
-        }
-        let insides = no_insides(alloc, app)?;
-        let known = Seq::new(alloc);
-        Ok(Levels {
-            tasks,
-            insides,
-            arrivals: Arrivals { known },
-        })
-    }
-
-    /// Judges the values that came in since the last time. Of a task that names an INTERNAL resource the same values inside
-    /// come in too. Where memory is wanted some may be missing.
-    pub fn renew(&mut self, alloc: Global, app: &App, pool: &mut Pool) -> Result<(), Memory>
-        requires pool { length app.now.tasks ≤ length pool.old }
-        requires domains { HaveTaskDomains app.now pool.old }
+    /// Brings in the values inside of the tasks that name an INTERNAL resource.
+    pub fn bring_in(&mut self, app: &App, pool: &mut Pool) -> Result<(), Memory>
+        requires domains { pool_domains pool.old ≡ domains_of app.now }
         requires levels { AreLevels app.now pool.old self.old }
         ensures pool { IsLonger pool.old pool.new }
-        ensures levels { OnOk result (AreAllLevels app.now pool.new self.new) }
-    {
-        self.bring_in(app, pool)?;
-        self.judge(alloc, app, pool)
-    }
-
-    // brings in the values inside of the tasks that name an INTERNAL resource
-    fn bring_in(&mut self, app: &App, pool: &mut Pool) -> Result<(), Memory>
-        requires pool { length app.now.tasks ≤ length pool.old }
-        requires domains { HaveTaskDomains app.now pool.old }
-        requires levels { AreLevels app.now pool.old self.old }
-        ensures pool { IsLonger pool.old pool.new }
-        ensures levels { OnOk result (AreLevels app.now pool.new self.new) }
+        ensures levels { AreLevels app.now pool.new self.new }
         ensures all { OnOk result (AreAllInside pool.new self.new.insides) }
     {
         for place in 0..self.insides.len() {
@@ -71,12 +40,12 @@ impl Levels {
         Ok(())
     }
 
-    // judges the values
-    fn judge(&mut self, alloc: Global, app: &App, pool: &Pool) -> Result<(), Memory>
-        requires pool { length app.now.tasks ≤ length pool.now }
+    /// Judges the values.
+    pub fn judge(&mut self, alloc: Global, app: &App, pool: &Pool) -> Result<(), Memory>
+        requires domains { pool_domains pool.now ≡ domains_of app.now }
         requires levels { AreLevels app.now pool.now self.old }
-        requires inside { AreAllInside pool.now self.old.insides }
-        ensures { OnOk result (AreAllLevels app.now pool.now self.new) }
+        ensures levels { AreLevels app.now pool.now self.new }
+        ensures all { OnOk result (AreAllInside pool.now self.old.insides → AreAllLevels app.now pool.now self.new) }
     {
         for task in 0..app.tasks.len() {
             let levels = self.tasks.at_mut(task);
@@ -94,8 +63,8 @@ impl Levels {
     }
 }
 
-// nothing inside was seen yet of the tasks that name an INTERNAL resource
-fn no_insides(alloc: Global, app: &App) -> Result<Seq<Insides>, Memory>
+/// Nothing inside was seen yet of the tasks that name an INTERNAL resource.
+pub fn no_insides(alloc: Global, app: &App) -> Result<Seq<Insides>, Memory>
     ensures { IfOk result (AreNoInsides app.now) }
 {
     let mut insides = Seq::new(alloc);

@@ -25,7 +25,7 @@ pub struct TaskLevels {
 }
 
 impl TaskLevels {
-    ghost use Rattle.std.specs.Prelude.{ℕ, List, ◌≡◌, ◌<◌, ◌≤◌, ◌+◌, ◌^◌, length, slice_index_or, IfOk, OnOk, IfSome, IsTrue, ◌-◌};
+    ghost use Rattle.std.specs.Prelude.{ℕ, List, ◌≡◌, ◌<◌, ◌≤◌, ◌+◌, ◌^◌, length, slice_index_or, IfOk, OnOk, OnErr, IfSome, IsTrue, ◌-◌};
     ghost use Rattle.osek_standard.specs.declared.app.App.{App};
     ghost use Rattle.abstract_state.specs.{declared.value.PartValue.{PartValue}, Concrete.{val_of}};
     ghost use Rattle.numbered_sets.specs.{Numbers.{has_number}, Pools.{values_at, IsNumberOf, Values}, NumberedEntries.{numbers_at}};
@@ -57,7 +57,7 @@ impl TaskLevels {
         requires known { task.0 < length app.now.tasks }
         requires pool { task.0 < length pool.now }
         requires levels { AreTaskLevels app.now task.0 (values_at pool.now task.0) self.old }
-        ensures levels { OnOk result (AreTaskLevels app.now task.0 (values_at pool.now task.0) self.new) }
+        ensures levels { AreTaskLevels app.now task.0 (values_at pool.now task.0) self.new }
         ensures all { OnOk result (self.new.judged ≡ length (values_at pool.now task.0)) }
     {
         for number in self.judged..pool.len(task.index()) {
@@ -81,6 +81,7 @@ impl TaskLevels {
         requires levels { AreTaskLevels app.now task.0 (values_at pool.now task.0) self.old }
         ensures levels { OnOk result (AreTaskLevels app.now task.0 (values_at pool.now task.0) (with_next self.new)) }
         ensures judged { OnOk result (self.new.judged ≡ self.old.judged) }
+        ensures err { OnErr result (AreTaskLevels app.now task.0 (values_at pool.now task.0) self.new) }
     {
         let component = task.index();
         if let Some(place) = self.place_beside(pool, component) {
@@ -128,6 +129,7 @@ impl TaskLevels {
         requires { task.0 < length app.now.tasks }
         ensures levels { OnOk result ((vs : List PartValue) → AreTaskLevels app.now task.0 vs self.old → IsNumberOf vs value.now self.old.judged → AreTaskLevels app.now task.0 vs (with_next self.new)) }
         ensures judged { OnOk result (self.new.judged ≡ self.old.judged) }
+        ensures err { OnErr result ((vs : List PartValue) → AreTaskLevels app.now task.0 vs self.old → AreTaskLevels app.now task.0 vs self.new) }
     {
         match as_candidate(app, task, value) {
             None => {
@@ -147,6 +149,7 @@ impl TaskLevels {
         ensures levels { OnOk result ((app : App) (u : ℕ) (vs : List PartValue) (v : PartValue) → AreTaskLevels app u vs self.old → IsNumberOf vs v self.old.judged →
             ((d : Level) → IsLiveAt app u (slice_index_or self.old.levels place d).priority v) → AreTaskLevels app u vs (with_next self.new)) }
         ensures judged { OnOk result (self.new.judged ≡ self.old.judged) }
+        ensures err { OnErr result ((app : App) (u : ℕ) (vs : List PartValue) → AreTaskLevels app u vs self.old → AreTaskLevels app u vs self.new) }
     {
         let number = self.judged;
         let level = self.levels.at_mut(place);
@@ -158,7 +161,7 @@ impl TaskLevels {
     fn place_for(&mut self, alloc: Global, priority: u32) -> Result<usize, Memory>
         ensures known { IfOk result (λ place. place < length self.new.levels) }
         ensures at { IfOk result (λ place. (d : Level) → (slice_index_or self.new.levels place d).priority ≡ priority) }
-        ensures levels { OnOk result ((app : App) (u : ℕ) (vs : List PartValue) → AreTaskLevels app u vs self.old → AreTaskLevels app u vs self.new) }
+        ensures levels { (app : App) (u : ℕ) (vs : List PartValue) → AreTaskLevels app u vs self.old → AreTaskLevels app u vs self.new }
         ensures judged { OnOk result (self.new.judged ≡ self.old.judged) }
     {
         let place = self.place_of(priority);

@@ -26,7 +26,7 @@ returns-clause-added c = λ app p arrival domains.
     let applies : Applies rule entry (plain_entry after made)
     = subst (λ (o : Option NumberedEntry). IfSome o (λ new. Applies rule entry (plain_entry after new))) c.in-Some.is c.in_ok-after.ensures.some in
     let numbers : AreNumbersOf after made = subst (λ (o : Option NumberedEntry). IfSome o (AreNumbersOf after)) c.in-Some.is c.in_ok-after.ensures.numbers in
-    let same : number_domains made ≡ number_domains c.args.entry.now = numbers.domains ∙ c.apply.ensures.pool.domains ∙ sym c.requires.numbers.domains in
+    let same : number_domains made ≡ number_domains c.args.entry.now = numbers.domains ∙ c.apply.ensures.pool.domains ∙ sym c.requires.rule.numbers.domains in
     let at : c.push.new.self ≡ rule.target ∷ [] = c.in_ok-push.ensures.ok ∙ ap (λ (ps : List Point). ps ++ rule.target ∷ []) c.new-targets.ensures in
     subst (AddsRoutines app p entry (λ (r : Rule). r ≡ rule) pool before after)
     (sym (c.in_ok-push-2.ensures.items ∙ ap (λ (ps : List Point). before ++ (record { decision = None; status = None; entry = made; ends = ends.At ps }) ∷ []) at))

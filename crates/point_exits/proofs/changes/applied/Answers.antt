@@ -2,7 +2,7 @@ use Rattle.std.proofs.{Common.{length, refl, sym, subst, List, ◌∙◌, arith}
 use Rattle.flow_model.specs.declared.test.Condition.{Condition}
 use Rattle.numbered_sets.specs.{declared.numbered_entry.NumberedEntry.{NumberedEntry}, Pools.{Values}}
 use Rattle.numbered_sets.proofs.NumberingLaws.{longer_onward}
-use Rattle.point_exits.specs.{Applying.{bare_rule}, Changing.{up_to, AreAllPassed}, Sifting.{AreSifted, LeavesNone}}
+use Rattle.point_exits.specs.{Applying.{bare_rule}, Changing.{up_to, AreInOrder, AreAllPassed}, Sifting.{AreSifted, LeavesNone}}
 use Rattle.point_exits.proofs.{NumbersPassing.{made_applies}, SiftedSets.{all_sifted, sifted_domains, taken_of_filled, none_taken}, ChangedSets.{stays_within, all_changes}}
 use Rattle.point_exits.proofs.changes.applied.Goals as goal
 
@@ -37,12 +37,18 @@ loop-place-init c =
 
 pub loop-place-preserved : goal.loop-place-preserved
 loop-place-preserved c = (
-  c.in_ok-change.ensures.passed c.args.conditions.now c.args.pool.now c.args.entry.now c.loop-place.invariant.0,
-  c.in_ok-change.ensures.alike ∙ c.loop-place.invariant.1,
+  c.in_ok-make.ensures.passed c.args.conditions.now c.args.pool.now c.args.entry.now c.loop-place.invariant.0,
+  c.in_ok-make.ensures.alike ∙ c.loop-place.invariant.1,
 )
 
-pub change-requires-clause-domain : goal.change-requires-clause-domain
-change-requires-clause-domain c =
+pub invariant_of-placed : goal.invariant_of-placed
+invariant_of-placed c = record {
+  known = omega (arith, c.loop-place-test.true, c.len-place-end.ensures);
+  order = λ is. subst AreInOrder c.as_slice-3.ensures (OnTrue_at is c.are_in_order-in_order.ensures);
+}
+
+pub make-requires-clause-domain : goal.make-requires-clause-domain
+make-requires-clause-domain c =
     let rule = bare_rule c.args.conditions.now c.args.changes.now in
     let pool = c.args.pool.now in
     let entry = c.args.entry.now in
@@ -51,7 +57,7 @@ change-requires-clause-domain c =
     (subst (λ (e : NumberedEntry). AreSifted pool c.as_slice-2.result.now e c.sift.new.entry) c.in_ok-made.ensures (OnTrue_at c.if-not-branch.false c.in_ok-sift.ensures.sifted)) in
     let passed : AreAllPassed (up_to rule c.loop-place.place) pool entry (length entry.sets) c.loop-place.pool c.loop-place.made.sets = c.loop-place.invariant.0 in
     let taken = taken_of_filled pool rule entry c.sift.new.entry c.requires.numbers sifted (OnTrue_at c.if-not-branch.false c.in_ok-sift.ensures.filled) in
-    stays_within rule pool entry c.loop-place.place c.loop-place.pool c.loop-place.made c.requires.numbers (c.requires.domains.sets taken) passed
+    stays_within rule pool entry c.loop-place.place c.loop-place.pool c.loop-place.made c.requires.numbers (c.requires.kept.sets taken) passed
 
 pub returns-clause-some : goal.returns-clause-some
 returns-clause-some c =
@@ -67,6 +73,6 @@ returns-clause-some c =
     all_changes rule c.loop-place.place pool entry (length entry.sets) c.loop-place.pool c.loop-place.made.sets (omega (arith, c.loop-place-test.false, c.len-place-end.ensures)) passed in
     made_applies rule pool entry (length entry.sets) c.loop-place.pool c.loop-place.made refl c.requires.numbers whole taken
 
-pub returns-in_err-change-clause-pool : goal.returns-in_err-change-clause-pool
-returns-in_err-change-clause-pool c =
-    longer_onward c.args.pool.now c.loop-place.pool c.change.new.pool c.loop-place.invariant.0.longer c.change.ensures.pool
+pub returns-in_err-make-clause-pool : goal.returns-in_err-make-clause-pool
+returns-in_err-make-clause-pool c =
+    longer_onward c.args.pool.now c.loop-place.pool c.make.new.pool c.loop-place.invariant.0.longer c.make.ensures.pool

@@ -28,8 +28,8 @@ module _ (rule : Rule) (entry : PlainEntry) where
   none_left None h = record { component = h.component; known = h.known; none = h.none }
   none_left (Some x) h = h
 
-pub applied-requires-clause-domains : goal.applied-requires-clause-domains
-applied-requires-clause-domains c = keeps_bare c.args.rule.now (plain_entry c.args.pool.now c.args.entry.now) c.requires.domains
+pub applied-requires : goal.applied-requires
+applied-requires c = record { numbers = c.requires.numbers; kept = keeps_bare c.args.rule.now (plain_entry c.args.pool.now c.args.entry.now) c.requires.domains }
 
 pub returns-clause-some : goal.returns-clause-some
 returns-clause-some c =

@@ -30,7 +30,7 @@ put_updated-requires-clause-domain c = λ v is.
     let member = member_of_plain (values_at before place) c.args.numbers.now v
     ∙ value_with_number (values_at before place) (has_number c.args.numbers.now) c.loop-number.number v known (there.1.is v ∙ same) (c.loop-number.invariant.2 c.loop-number-test.true) in
     subst (λ (d : Domain). IsWithin d (value_after c.args.changes.now place v)) (sym (same_domain before c.loop-number.pool place c.loop-number.invariant.0.longer))
-    (c.requires.domain v member)
+    (c.requires.within v member)
 
 pub loop-number-preserved : goal.loop-number-preserved
 loop-number-preserved c =

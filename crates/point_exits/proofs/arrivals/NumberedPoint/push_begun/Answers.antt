@@ -38,14 +38,18 @@ module _ (app : App) (p : Point) (pool grown : List Values) (entry : NumberedEnt
   its_component : (y : Change) → get_or x.changes 0 y ≡ y → y.component.0 < length entry.sets
   its_component y at = (let known = arrival_known app p x (are.each x listed) y at in omega (arith, known, numbers_counted app entry alike))
 
-pub push_end-requires-clause-numbers : goal.push_end-requires-clause-numbers
-push_end-requires-clause-numbers c = still_known c.args.pool.now c.loop-rule.pool c.args.self.now.entry.now c.loop-rule.invariant.added.longer c.requires.numbers
-
-pub push_end-requires-clause-kept : goal.push_end-requires-clause-kept
-push_end-requires-clause-kept c =
+pub push_end-requires : goal.push_end-requires
+push_end-requires c =
+    let at = c.requires.at in
+    let entry = c.args.self.now.entry.now in
+    let grown = c.loop-rule.pool in
+    let longer = c.loop-rule.invariant.added.longer in
     let x = c.rule-item.result in
     let listed = subst (λ (xs : List Rule). Contains xs x) c.as_slice-rule-items.ensures (c.loop-rule.rule-index, c.loop-rule-test.true, sym c.rule-item.is) in
-    keeps c.args.self.now.app.now c.args.self.now.point c.args.pool.now c.loop-rule.pool c.args.self.now.entry.now c.args.rules.now c.requires.rules c.requires.point c.requires.numbers c.args.self.now.domains c.requires.allowed c.loop-rule.invariant.added.longer x listed
+    record {
+      numbers = still_known c.args.pool.now grown entry longer at.numbers;
+      kept = keeps c.args.self.now.app.now c.args.self.now.point c.args.pool.now grown entry c.args.rules.now c.requires.rules at.point at.numbers c.args.self.now.domains at.allowed longer x listed;
+    }
 
 pub invariant_of-bare : goal.invariant_of-bare
 invariant_of-bare c =
@@ -53,19 +57,23 @@ invariant_of-bare c =
     let listed = subst (λ (xs : List Rule). Contains xs x) c.as_slice-rule-items.ensures (c.loop-rule.rule-index, c.loop-rule-test.true, sym c.rule-item.is) in
     record {
       bare = sym c.is_bare.ensures ∙ c.if-is_bare.true;
-      known = its_component c.args.self.now.app.now c.args.self.now.point c.args.pool.now c.loop-rule.pool c.args.self.now.entry.now c.args.rules.now c.requires.rules c.requires.point c.requires.numbers c.args.self.now.domains
-          c.requires.allowed c.loop-rule.invariant.added.longer x listed;
-      filled = c.args.self.now.filled;
+      known = its_component c.args.self.now.app.now c.args.self.now.point c.args.pool.now c.loop-rule.pool c.args.self.now.entry.now c.args.rules.now c.requires.rules c.requires.at.point c.requires.at.numbers c.args.self.now.domains
+          c.requires.at.allowed c.loop-rule.invariant.added.longer x listed;
+      filled = c.requires.at.filled;
     }
 
-pub push_arrival-requires-clause-numbers : goal.push_arrival-requires-clause-numbers
-push_arrival-requires-clause-numbers c = still_known c.args.pool.now c.loop-rule.pool c.args.self.now.entry.now c.loop-rule.invariant.added.longer c.requires.numbers
-
-pub push_arrival-requires-clause-kept : goal.push_arrival-requires-clause-kept
-push_arrival-requires-clause-kept c =
+pub push_arrival-requires-clause-rule : goal.push_arrival-requires-clause-rule
+push_arrival-requires-clause-rule c =
+    let at = c.requires.at in
+    let entry = c.args.self.now.entry.now in
+    let grown = c.loop-rule.pool in
+    let longer = c.loop-rule.invariant.added.longer in
     let x = c.rule-item.result in
     let listed = subst (λ (xs : List Rule). Contains xs x) c.as_slice-rule-items.ensures (c.loop-rule.rule-index, c.loop-rule-test.true, sym c.rule-item.is) in
-    keeps c.args.self.now.app.now c.args.self.now.point c.args.pool.now c.loop-rule.pool c.args.self.now.entry.now c.args.rules.now c.requires.rules c.requires.point c.requires.numbers c.args.self.now.domains c.requires.allowed c.loop-rule.invariant.added.longer x listed
+    record {
+      numbers = still_known c.args.pool.now grown entry longer at.numbers;
+      kept = keeps c.args.self.now.app.now c.args.self.now.point c.args.pool.now grown entry c.args.rules.now c.requires.rules at.point at.numbers c.args.self.now.domains at.allowed longer x listed;
+    }
 
 pub push_arrival-requires-clause-known : goal.push_arrival-requires-clause-known
 push_arrival-requires-clause-known c = c.loop-rule.invariant.added.known
@@ -87,8 +95,8 @@ loop-rule-preserved c =
     let inv = c.loop-rule.invariant in
     let at = sym c.rule-item.is in
     let lt = c.loop-rule-test.true in
-    let here : AreNumbersOf grown entry = still_known pool grown entry inv.added.longer c.requires.numbers in
-    let view : plain_entry grown entry ≡ plain = same_view pool grown entry inv.added.longer c.requires.numbers in
+    let here : AreNumbersOf grown entry = still_known pool grown entry inv.added.longer c.requires.at.numbers in
+    let view : plain_entry grown entry ≡ plain = same_view pool grown entry inv.added.longer c.requires.at.numbers in
     let listed_here : Contains c.args.rules.now x = subst (λ (xs : List Rule). Contains xs x) c.as_slice-rule-items.ensures (i, lt, at) in
     let now : List Values → List ExitGroup → List NumberEnd → Type 0 = λ q gs es. AreBegun app p entry rules (i + 1) pool first q gs es in
     elim c.if-is_bare.branch [
@@ -146,7 +154,7 @@ returns-clause-added c =
     let inv : AreBegun app p entry rules i pool first grown mid ends = subst (λ (xs : List Rule). AreBegun app p entry xs i pool first grown mid ends) c.as_slice-rule-items.ensures c.loop-rule.invariant in
     let past : length rules ≤ i = subst (λ (xs : List Rule). length xs ≤ i) c.as_slice-rule-items.ensures c.loop-rule-test.false in
     let shared : AddsRoutines app p plain (IsAmongFirst rules (length rules) true) grown mid grown now =
-    c.in_ok-push_shared.ensures app p pool grown rules are c.args.self.now.domains inv.added.longer c.requires.numbers inv.added.known (ends_whole rules i entry pool grown ends past inv.shared) in
+    c.in_ok-push_shared.ensures app p pool grown rules are c.args.self.now.domains inv.added.longer c.requires.at.numbers inv.added.known (ends_whole rules i entry pool grown ends past inv.shared) in
     record {
       rules = rules;
       are = are;

@@ -22,31 +22,24 @@ updated-requires-clause-alone c =
     subst (λ (j : ℕ). IsAlone c.args.self.now.rule.now.changes j 0) (sym c.index-component.ensures)
     (is_alone c.args.self.now.rule.now c.args.self.now.bare c.args.pool.now c.args.self.now.entry.now c.requires.numbers c.args.self.now.filled x (c.at.ensures.item x))
 
-pub updated-requires-clause-known : goal.updated-requires-clause-known
-updated-requires-clause-known c =
-    let x = c.at.result.now in
-    pool_has c.args.pool.now c.args.self.now.entry.now x.component.0 c.index-component.result c.requires.numbers (c.args.self.now.known x (c.at.ensures.item x)) c.index-component.ensures
-
-pub updated-requires-clause-alike : goal.updated-requires-clause-alike
-updated-requires-clause-alike c =
-    alike_there c.args.pool.now c.args.pool.now c.args.self.now.entry.now c.index-component.result c.in_ok-numbers.numbers c.requires.numbers (longer_itself c.args.pool.now) (sym c.in_ok-numbers.ensures)
-
-pub updated-requires-clause-numbers : goal.updated-requires-clause-numbers
-updated-requires-clause-numbers c =
-    known_there c.args.pool.now c.args.pool.now c.args.self.now.entry.now c.index-component.result c.in_ok-numbers.numbers c.requires.numbers (longer_itself c.args.pool.now) (sym c.in_ok-numbers.ensures)
-
-pub updated-requires-clause-domain : goal.updated-requires-clause-domain
-updated-requires-clause-domain c = λ v m.
+pub updated-requires-clause-set : goal.updated-requires-clause-set
+updated-requires-clause-set c =
     let rule = c.args.self.now.rule.now in
     let pool = c.args.pool.now in
     let entry = c.args.self.now.entry.now in
     let x = c.at.result.now in
     let at = c.at.ensures.item x in
     let index : c.index-component.result ≡ x.component.0 = c.index-component.ensures in
-    let there = subst (λ (j : ℕ). IsTrue (is_member (plain_set (values_at pool j) (get_or entry.sets j no_set)) v)) index
-    (subst (λ (s : Numbers). IsTrue (is_member (plain_set (values_at pool c.index-component.result) s) v)) c.in_ok-numbers.ensures m) in
-    subst (λ (j : ℕ). IsWithin (domain_at pool j) (value_after rule.changes j v)) (sym index)
-    ((made_within rule c.args.self.now.bare pool entry c.requires.numbers c.args.self.now.filled c.requires.kept).each x v at (c.args.self.now.known x at) refl there)
+    record {
+      known = pool_has pool entry x.component.0 c.index-component.result c.requires.numbers (c.args.self.now.known x at) index;
+      alike = alike_there pool pool entry c.index-component.result c.in_ok-numbers.numbers c.requires.numbers (longer_itself pool) (sym c.in_ok-numbers.ensures);
+      listed = known_there pool pool entry c.index-component.result c.in_ok-numbers.numbers c.requires.numbers (longer_itself pool) (sym c.in_ok-numbers.ensures);
+      within = λ v m.
+          (let there = subst (λ (j : ℕ). IsTrue (is_member (plain_set (values_at pool j) (get_or entry.sets j no_set)) v)) index
+          (subst (λ (s : Numbers). IsTrue (is_member (plain_set (values_at pool c.index-component.result) s) v)) c.in_ok-numbers.ensures m) in
+          subst (λ (j : ℕ). IsWithin (domain_at pool j) (value_after rule.changes j v)) (sym index)
+          ((made_within rule c.args.self.now.bare pool entry c.requires.numbers c.args.self.now.filled c.requires.kept).each x v at (c.args.self.now.known x at) refl there));
+    }
 
 pub returns-clause-added : goal.returns-clause-added
 returns-clause-added c =

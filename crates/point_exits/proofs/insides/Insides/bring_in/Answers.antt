@@ -7,7 +7,7 @@ use Rattle.flow_model.specs.Tests.{updated}
 use Rattle.numbered_sets.specs.Pools.{Values, no_values, AreValues, seen_at, value_seen, values_at, domain_at, IsNumberOf, IsLonger}
 use Rattle.numbered_sets.proofs.{NumberingLaws.{as_long, longer_onward, same_domain}, ViewLaws.{longer_with}}
 use Rattle.point_exits.specs.{declared.insides.Insides.{Insides}, Levels.{AreInside}}
-use Rattle.point_exits.proofs.InsideLevels.{AreBroughtIn, none_brought, brought_next, value_within}
+use Rattle.point_exits.proofs.InsideLevels.{AreBroughtIn, inside_longer, none_brought, brought_next, value_within}
 use Rattle.point_exits.proofs.insides.Insides.bring_in.Goals as goal
 
 -- how many values of the task there are
@@ -71,6 +71,26 @@ returns-in_err-push-clause-pool c =
     let inv = c.loop-number.invariant in
     let lt : k < length pool = omega (arith, c.requires.known, c.index-component.ensures, as_long before pool inv.brought.longer) in
     longer_onward before pool c.number.new.self inv.brought.longer (subst (IsLonger pool) (sym c.in_ok-found.ensures.pool) (longer_with pool k c.of-inside.result lt))
+
+pub returns-in_err-found-clause-insides : goal.returns-in_err-found-clause-insides
+returns-in_err-found-clause-insides c =
+    let t = c.args.self.now.task.0 in
+    let x = c.loop-number.self in
+    subst (λ (q : List Values). AreInside (values_at q t) x) (sym c.in_err-found.ensures.err)
+    (subst (λ k. AreInside (values_at c.loop-number.pool k) x) c.index-component.ensures c.loop-number.invariant.brought.inside)
+
+pub returns-in_err-push-clause-insides : goal.returns-in_err-push-clause-insides
+returns-in_err-push-clause-insides c =
+    let pool = c.loop-number.pool in
+    let after = c.number.new.self in
+    let k = c.index-component.result in
+    let t = c.args.self.now.task.0 in
+    let x = c.loop-number.self in
+    let inv = c.loop-number.invariant in
+    let lt : k < length pool = omega (arith, c.requires.known, c.index-component.ensures, as_long c.args.pool.now pool inv.brought.longer) in
+    let longer : IsLonger pool after = subst (IsLonger pool) (sym c.in_ok-found.ensures.pool) (longer_with pool k c.of-inside.result lt) in
+    let before : AreInside (values_at pool t) x = subst (λ i. AreInside (values_at pool i) x) c.index-component.ensures inv.brought.inside in
+    subst (λ (ns : List ℕ). AreInside (values_at after t) (record x { numbers = ns })) (sym c.in_err-push.ensures.err) (inside_longer (values_at pool t) (values_at after t) x (longer.values t) before)
 
 pub returns-clause-insides : goal.returns-clause-insides
 returns-clause-insides c = subst (λ k. AreInside (values_at c.loop-number.pool k) c.loop-number.self) c.index-component.ensures c.loop-number.invariant.brought.inside

@@ -1,6 +1,6 @@
-use Rattle.std.proofs.Common.{◌<◌, ◌∷◌, ◌++◌, [], ◌∙◌, length, refl, sym, ap, arith}
+use Rattle.std.proofs.Common.{ℕ, List, ◌<◌, ◌∷◌, ◌++◌, [], ◌∙◌, length, refl, sym, ap, subst, arith}
 use Rattle.std.proofs.lemmas.List.{length-append}
-use Rattle.point_exits.specs.declared.insides.Insides.{Insides}
+use Rattle.point_exits.specs.{declared.insides.Insides.{Insides}, Levels.{AreInside}}
 use Rattle.point_exits.proofs.InsideLevels.{inside_itself}
 use Rattle.point_exits.proofs.insides.Insides.go_on_to.Goals as goal
 
@@ -29,3 +29,8 @@ loop-number-preserved c =
 
 pub returns-clause-insides : goal.returns-clause-insides
 returns-clause-insides c = c.loop-number.invariant.insides
+
+pub returns-in_err-push-clause-insides : goal.returns-in_err-push-clause-insides
+returns-in_err-push-clause-insides c = λ vs size h already.
+    let x = c.loop-number.self in
+    subst (λ (ns : List ℕ). AreInside vs (record x { numbers = ns })) (sym c.in_err-push.ensures.err) (c.loop-number.invariant.insides vs size h already)

@@ -1,5 +1,4 @@
 use Rattle.std.proofs.Common.{◌≡◌, ◌∙◌, length, ap, arith}
-use Rattle.std.proofs.lemmas.Result.{on_ok_weaker}
 use Rattle.numbered_sets.specs.Pools.{values_at}
 use Rattle.point_exits.proofs.insides.Insides.renew.Goals as goal
 
@@ -9,4 +8,4 @@ returns-clause-insides c =
     let t = c.args.self.now.task.0 in
     let e = c.in_ok-bring_in.ensures in
     let size : c.len.result ≡ length (values_at mid t) = c.len.ensures ∙ ap (λ k. length (values_at mid k)) c.index-component.ensures in
-    on_ok_weaker c.go_on_to.result (λ onward. onward (values_at mid t) size e.insides (λ n v past is. e.rest n v (let first = e.first in omega (arith, past, first)) is)) c.go_on_to.ensures.insides
+    c.go_on_to.ensures.insides (values_at mid t) size c.bring_in.ensures.insides (λ n v past is. e.rest n v (let first = e.first in omega (arith, past, first)) is)

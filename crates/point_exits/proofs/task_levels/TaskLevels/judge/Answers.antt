@@ -1,8 +1,8 @@
 use Rattle.std.proofs.Common.{ℕ, ◌∙◌, sym, subst}
-use Rattle.std.proofs.lemmas.Result.{on_ok_weaker}
-use Rattle.numbered_sets.specs.Pools.{IsNumberOf}
-use Rattle.point_exits.specs.Levels.{IsLiveAt}
-use Rattle.point_exits.proofs.JudgedValues.{dead_judged, is_dead, is_live_at}
+use Rattle.std.proofs.lemmas.Result.{on_ok_weaker, on_err_weaker}
+use Rattle.numbered_sets.specs.{Numbers.{Numbers}, Pools.{IsNumberOf}}
+use Rattle.point_exits.specs.Levels.{IsLiveAt, AreTaskLevels}
+use Rattle.point_exits.proofs.JudgedValues.{also_wanting, dead_judged, is_dead, is_live_at}
 use Rattle.point_exits.proofs.task_levels.TaskLevels.judge.Goals as goal
 
 pub returns-in_ok-put-in-None-clause-levels : goal.returns-in_ok-put-in-None-clause-levels
@@ -20,8 +20,20 @@ returns-in_ok-place-in-Some-clause-levels c =
     let place = c.in_ok-place-in-Some.ensures in
     let live = is_live_at app u v c.as_candidate.result c.in-Some.own c.as_candidate.ensures c.in-Some.is in
     on_ok_weaker c.put_next.result
-    (λ put vs h is. put app u vs v (place.levels app u vs h) (subst (IsNumberOf vs v) (sym place.judged) is) (λ d. subst (λ (p : ℕ). IsLiveAt app u p v) (sym (place.at d)) live))
+    (λ put vs h is. put app u vs v (c.place_for.ensures.levels app u vs h) (subst (IsNumberOf vs v) (sym place.judged) is) (λ d. subst (λ (p : ℕ). IsLiveAt app u p v) (sym (place.at d)) live))
     c.put_next.ensures.levels
 
 pub returns-in_ok-place-in-Some-clause-judged : goal.returns-in_ok-place-in-Some-clause-judged
 returns-in_ok-place-in-Some-clause-judged c = on_ok_weaker c.put_next.result (λ put. put ∙ c.in_ok-place-in-Some.ensures.judged) c.put_next.ensures.judged
+
+pub returns-in_err-put-in-None-clause-err : goal.returns-in_err-put-in-None-clause-err
+returns-in_err-put-in-None-clause-err c = also_wanting c.from_residual.result λ vs h. subst (λ (x : Numbers). AreTaskLevels c.args.app.now c.args.task.0 vs (record c.args.self.now { dead = x })) (sym c.in_err-put-in-None.ensures.err) h
+
+pub returns-in_err-place-in-Some-clause-err : goal.returns-in_err-place-in-Some-clause-err
+returns-in_err-place-in-Some-clause-err c = also_wanting c.from_residual-in_err-place-in-Some.result λ vs h. c.place_for.ensures.levels c.args.app.now c.args.task.0 vs h
+
+pub returns-in_ok-place-in-Some-clause-err : goal.returns-in_ok-place-in-Some-clause-err
+returns-in_ok-place-in-Some-clause-err c =
+    let app = c.args.app.now in
+    let u = c.args.task.0 in
+    on_err_weaker c.put_next.result (λ kept vs h. kept app u vs (c.place_for.ensures.levels app u vs h)) c.put_next.ensures.err

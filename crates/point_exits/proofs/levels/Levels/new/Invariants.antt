@@ -1,5 +1,0 @@
-use Rattle.point_exits.proofs.LevelLaws.{AreLevelsUpTo}
-use Rattle.point_exits.proofs.levels.Levels.new.Given as goal
-
-abbrev pub invariant-loop-task : goal.invariant-loop-task
-invariant-loop-task l = AreLevelsUpTo l.app l.pool l.task l.tasks

@@ -1,0 +1,136 @@
+use Rattle.std.proofs.Common.{◌≡◌, ◌∷◌, [], Bool, List, ◌∙◌, sym, ap, subst}
+use Rattle.std.specs.{Prelude.{Contains, IfSome}, declared.option.Option.{Option}}
+use Rattle.std.proofs.lemmas.{List.{take_all}, Result.{on_ok_weaker}}
+use Rattle.osek_standard.specs.declared.app.App.{App}
+use Rattle.abstract_state.specs.{declared.table.PlainEntry.{PlainEntry}, Domains.{domains, domains_of}}
+use Rattle.flow_model.specs.{declared.case.EffectCase.{EffectCase}, Effects.{IsKnownStay}}
+use Rattle.numbered_sets.specs.Views.{plain_entry}
+use Rattle.numbered_sets.proofs.ViewLaws.{same_view, same_domains, still_known}
+use Rattle.flow_effects.specs.{declared.effects.Alternatives.{Alternatives}, Outs.{AreOutIn}, Alternatives.{alternative_cases, with_alternatives, all_cases, AreApart}}
+use Rattle.flow_exits.specs.Leaving.{effect_rule}
+use Rattle.point_exits.specs.{Applying.{KeepsDomains}, Leaving.{AddsEffects}, Alternatives.{HasOwnValues}}
+use Rattle.point_exits.proofs.{AddingEffects.{more_effects, effects_on}, EffectDomains.{effect_keeps_domains}, AlternativeCases.{case_listed, alternative_listed, own_values}, GrownNumberings.{grown_onward}}
+use Rattle.point_exits.proofs.numbering.Numbering.push_instructions.Goals as goal
+
+pub push_effect-requires-clause-stays : goal.push_effect-requires-clause-stays
+push_effect-requires-clause-stays c =
+    let x = c.effect-item.result in
+    let listed = subst (λ (xs : List EffectCase). Contains xs x) c.as_slice-effect-items.ensures (c.loop-effect.effect-index, c.loop-effect-test.true, sym c.effect-item.is) in
+    subst (λ (app : App). IsKnownStay app x.leaving.stay) (sym c.loop-effect.invariant.grown.app)
+    (c.in_ok-effects.ensures.stays x (case_listed c.in_ok-effects.effects.cases c.in_ok-effects.effects.alternatives x listed))
+
+pub push_effect-requires-clause-effect : goal.push_effect-requires-clause-effect
+push_effect-requires-clause-effect c =
+    let pool = c.args.self.now.pool in
+    let entry = c.args.before.now in
+    let x = c.effect-item.result in
+    let alike : domains (plain_entry pool entry) ≡ domains_of c.args.self.now.app.now = same_domains pool 0 entry.sets ∙ (c.requires.at.numbers.domains ∙ c.args.self.now.domains) in
+    let listed = subst (λ (xs : List EffectCase). Contains xs x) c.as_slice-effect-items.ensures (c.loop-effect.effect-index, c.loop-effect-test.true, sym c.effect-item.is) in
+    record {
+      numbers = still_known pool c.loop-effect.self.pool entry c.loop-effect.invariant.added.longer c.requires.at.numbers;
+      kept = subst (KeepsDomains (effect_rule x)) (sym (same_view pool c.loop-effect.self.pool entry c.loop-effect.invariant.added.longer c.requires.at.numbers))
+          (effect_keeps_domains c.args.self.now.app.now c.args.point (plain_entry pool entry) (all_cases c.in_ok-effects.effects) x alike
+          (case_listed c.in_ok-effects.effects.cases c.in_ok-effects.effects.alternatives x listed) (c.in_ok-effects.ensures.exact (plain_entry pool entry) alike c.requires.at.allowed));
+    }
+
+pub loop-effect-preserved : goal.loop-effect-preserved
+loop-effect-preserved c =
+    let app = c.args.self.now.app.now in
+    let pool = c.args.self.now.pool in
+    let mid = c.loop-effect.self.pool in
+    let entry = c.args.before.now in
+    let inv = c.loop-effect.invariant in
+    let x = c.effect-item.result in
+    record {
+      added = effects_on app (plain_entry pool entry) c.as_slice-effect-items.result.now c.loop-effect.effect-index x pool mid c.push_effect.new.self.pool c.args.groups.now.items c.loop-effect.groups.items c.push_effect.new.groups.items
+          c.loop-effect-test.true (sym c.effect-item.is) inv.added
+          (subst (λ (e : PlainEntry). AddsEffects app e (x ∷ []) mid c.loop-effect.groups.items c.push_effect.new.self.pool c.push_effect.new.groups.items) (same_view pool mid entry inv.added.longer c.requires.at.numbers)
+          (subst (λ (own : App). AddsEffects own (plain_entry mid entry) (x ∷ []) mid c.loop-effect.groups.items c.push_effect.new.self.pool c.push_effect.new.groups.items) inv.grown.app c.in_ok-push_effect.ensures.added));
+      grown = grown_onward c.args.self.now c.loop-effect.self c.push_effect.new.self inv.grown c.push_effect.ensures.grown;
+    }
+
+pub push_alternatives-requires-clause-numbers : goal.push_alternatives-requires-clause-numbers
+push_alternatives-requires-clause-numbers c = still_known c.args.self.now.pool c.loop-effect.self.pool c.args.before.now c.loop-effect.invariant.added.longer c.requires.at.numbers
+
+pub push_alternatives-requires-clause-own : goal.push_alternatives-requires-clause-own
+push_alternatives-requires-clause-own c =
+    let app = c.args.self.now.app.now in
+    let pool = c.args.self.now.pool in
+    let entry = c.args.before.now in
+    let alike : domains (plain_entry pool entry) ≡ domains_of app = same_domains pool 0 entry.sets ∙ (c.requires.at.numbers.domains ∙ c.args.self.now.domains) in
+    subst HasOwnValues (sym (same_view pool c.loop-effect.self.pool entry c.loop-effect.invariant.added.longer c.requires.at.numbers))
+    (own_values app c.args.point (plain_entry pool entry) alike c.requires.at.allowed)
+
+pub push_alternatives-requires-clause-apart : goal.push_alternatives-requires-clause-apart
+push_alternatives-requires-clause-apart c =
+    subst (λ (app : App). AreApart app c.in-Some.alternatives) (sym c.loop-effect.invariant.grown.app)
+    (subst (λ (o : Option Alternatives). IfSome o (AreApart c.args.self.now.app.now)) c.in-Some.is c.in_ok-effects.ensures.apart)
+
+pub push_alternatives-requires-clause-kept : goal.push_alternatives-requires-clause-kept
+push_alternatives-requires-clause-kept c = λ x m.
+    let app = c.args.self.now.app.now in
+    let pool = c.args.self.now.pool in
+    let entry = c.args.before.now in
+    let effects = c.in_ok-effects.effects in
+    let alike : domains (plain_entry pool entry) ≡ domains_of app = same_domains pool 0 entry.sets ∙ (c.requires.at.numbers.domains ∙ c.args.self.now.domains) in
+    let listed = alternative_listed effects.cases effects.alternatives c.in-Some.alternatives x c.in-Some.is m in
+    subst (KeepsDomains (effect_rule x)) (sym (same_view pool c.loop-effect.self.pool entry c.loop-effect.invariant.added.longer c.requires.at.numbers))
+    (effect_keeps_domains app c.args.point (plain_entry pool entry) (all_cases effects) x alike listed (c.in_ok-effects.ensures.exact (plain_entry pool entry) alike c.requires.at.allowed))
+
+pub push_alternatives-requires-clause-known : goal.push_alternatives-requires-clause-known
+push_alternatives-requires-clause-known c = c.loop-effect.invariant.added.known
+
+pub returns-in-None-clause-added : goal.returns-in-None-clause-added
+returns-in-None-clause-added c =
+    let app = c.args.self.now.app.now in
+    let pool = c.args.self.now.pool in
+    let plain = plain_entry pool c.args.before.now in
+    let effects = c.in_ok-effects.effects in
+    let alike : domains plain ≡ domains_of app = same_domains pool 0 c.args.before.now.sets ∙ (c.requires.at.numbers.domains ∙ c.args.self.now.domains) in
+    let whole = take_all c.loop-effect.effect-index c.as_slice-effect-items.result.now c.loop-effect-test.false ∙ c.as_slice-effect-items.ensures ∙ sym (ap (with_alternatives effects.cases) c.in-None.is) in
+    record {
+      effects = all_cases effects;
+      stays = c.in_ok-effects.ensures.stays;
+      covering = c.in_ok-effects.ensures.covering plain alike (subst (λ (xs : List Bool). AreOutIn app xs plain) (sym c.as_slice.ensures) c.in_ok-outs.ensures);
+      exact = c.in_ok-effects.ensures.exact plain alike;
+      added = subst (λ (xs : List EffectCase). AddsEffects app plain xs pool c.args.groups.now.items c.loop-effect.self.pool c.loop-effect.groups.items) whole c.loop-effect.invariant.added;
+    }
+
+pub returns-clause-added : goal.returns-clause-added
+returns-clause-added c =
+    let app = c.args.self.now.app.now in
+    let pool = c.args.self.now.pool in
+    let mid = c.loop-effect.self.pool in
+    let after = c.push_alternatives.new.self.pool in
+    let entry = c.args.before.now in
+    let plain = plain_entry pool entry in
+    let effects = c.in_ok-effects.effects in
+    let first = c.args.groups.now.items in
+    let then = c.loop-effect.groups.items in
+    let last = c.push_alternatives.new.groups.items in
+    let alike : domains plain ≡ domains_of app = same_domains pool 0 entry.sets ∙ (c.requires.at.numbers.domains ∙ c.args.self.now.domains) in
+    let others = alternative_cases c.in-Some.alternatives in
+    let some : AddsEffects app plain effects.cases pool first mid then =
+    subst (λ (xs : List EffectCase). AddsEffects app plain xs pool first mid then)
+    (take_all c.loop-effect.effect-index c.as_slice-effect-items.result.now c.loop-effect-test.false ∙ c.as_slice-effect-items.ensures) c.loop-effect.invariant.added in
+    on_ok_weaker c.push_alternatives.result
+    (λ added. record {
+      effects = all_cases effects;
+      stays = c.in_ok-effects.ensures.stays;
+      covering = c.in_ok-effects.ensures.covering plain alike (subst (λ (xs : List Bool). AreOutIn app xs plain) (sym c.as_slice.ensures) c.in_ok-outs.ensures);
+      exact = c.in_ok-effects.ensures.exact plain alike;
+      added =
+          subst (λ (xs : List EffectCase). AddsEffects app plain xs pool first after last) (sym (ap (with_alternatives effects.cases) c.in-Some.is))
+          (more_effects app plain effects.cases others pool mid after first then last some
+          (subst (λ (e : PlainEntry). AddsEffects app e others mid then after last) (same_view pool mid entry c.loop-effect.invariant.added.longer c.requires.at.numbers)
+          (subst (λ (own : App). AddsEffects own (plain_entry mid entry) others mid then after last) c.loop-effect.invariant.grown.app added)));
+    }) c.push_alternatives.ensures.added
+
+pub returns-clause-grown : goal.returns-clause-grown
+returns-clause-grown c = grown_onward c.args.self.now c.loop-effect.self c.push_alternatives.new.self c.loop-effect.invariant.grown c.push_alternatives.ensures.grown
+
+pub returns-in_err-push_effect-clause-grown : goal.returns-in_err-push_effect-clause-grown
+returns-in_err-push_effect-clause-grown c = grown_onward c.args.self.now c.loop-effect.self c.push_effect.new.self c.loop-effect.invariant.grown c.push_effect.ensures.grown
+
+pub returns-in-None-clause-grown : goal.returns-in-None-clause-grown
+returns-in-None-clause-grown c = c.loop-effect.invariant.grown
