@@ -1,13 +1,20 @@
 -- In a fold over the rows of a table by number, beside a pool that grew: what is known of the row that comes next.
-use Rattle.std.proofs.Common.{◌≡◌, ℕ, ◌+◌, ◌<◌, List, [], ◌∷◌, ◌++◌, length, get_or, take, sym, ap, ◌∙◌, arith}
+use Rattle.std.proofs.Common.{◌≡◌, ℕ, ◌+◌, ◌<◌, List, [], ◌∷◌, ◌++◌, length, get_or, take, sym, ap, subst, ◌∙◌, arith}
 use Rattle.std.proofs.lemmas.List.{get_or-take, get_or_default, length-take, take_more}
 use Rattle.osek_standard.specs.declared.app.App.{App}
 use Rattle.abstract_state.specs.{declared.table.{TableRow.{TableRow}, PlainTable.{PlainTable}}, Written.{IsWritten}}
 use Rattle.numbered_sets.specs.{declared.table.NumberedRow.{NumberedRow}, Pools.{Values, IsLonger}, PlainTables.{plain_row, AreRowsFor}}
 use Rattle.numbered_sets.proofs.{RowsByNumber.{as_many, row_is, row_listed}, WrittenRows.{row_number, rows_ascend}}
 use Rattle.point_exits.specs.{declared.group.ExitGroup.{ExitGroup}, Groups.{all_exits}, Rows.{IsProperRow}}
-use Rattle.table_rows.specs.{Folds.{IsNextRow}, Rows.{AreExitsOf}}
+use Rattle.table_rows.specs.{Folds.{IsNextRow}, Rows.{AreRowsFrom, AreExitsOf}}
 use Rattle.table_rows.proofs.TableRows.{row_proper}
+
+-- rows for those of a written table are rows from one
+pub rows_from : (app : App) (table : PlainTable) → IsWritten app table → (pool : List Values) (rows : List NumberedRow) → AreRowsFor table.rows pool rows → AreRowsFrom app pool rows
+rows_from app table written pool rows are = record {
+  known = are.known;
+  written = subst (IsWritten app) (let same = sym are.same in λ i. record { rows = same i }) written;
+}
 
 module _ (app : App) (table : PlainTable) (written : IsWritten app table) (first : List Values) (rows : List NumberedRow)
     (are : AreRowsFor table.rows first rows) (pool : List Values) (longer : IsLonger first pool)

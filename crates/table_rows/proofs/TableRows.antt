@@ -3,6 +3,7 @@ use Rattle.std.proofs.Common.{◌≡◌, ◌<◌, List, [], ◌∷◌, length, g
 use Rattle.std.specs.Prelude.{Contains}
 use Rattle.std.proofs.lemmas.List.{length-map, get_or-map, get_or_default}
 use Rattle.osek_standard.specs.{declared.{app.App.{App}, state.State.{State}, point.Point.{Point}}, Points.{point_of, point_number, IsPoint}}
+use Rattle.osek_standard.specs.declared.point.Point.TheVariants as point
 use Rattle.osek_standard.proofs.{Members.{Among, contained_among, among_contained, among_map, map_among}, PointLaws.{one_number}}
 use Rattle.abstract_state.specs.declared.{table.{TableRow.{TableRow}, PlainTable.{PlainTable}}}
 use Rattle.abstract_state.specs.{Components.{abstract_of}, Domains.{domains_of}, Tables.{In, sets_of}, Written.{IsWritten}}
@@ -90,3 +91,9 @@ module _ (app : App) (pool : List Values) (rows : List NumberedRow) (from : AreR
 
   pub first_listed : 0 < length rows → (d : NumberedRow) → Contains rows (get_or rows 0 d)
   first_listed some d = (0, some, get_or_default rows 0 (get_or rows 0 d) d some)
+
+  -- so a pool for the rows, if there are any, is one for the application's components
+  pub pool_alike : 0 < length rows → pool_domains pool ≡ domains_of app
+  pool_alike some =
+      let none : NumberedRow = record { point = point.Halted; entry = record { sets = [] } } in
+      pool_is (get_or rows 0 none) (first_listed some none)

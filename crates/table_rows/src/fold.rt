@@ -9,7 +9,7 @@ use abstract_state::Point;
 use numbered_sets::Table;
 use osek_standard::App;
 use osek_values::Memory;
-use point_exits::{ExitGroup, Levels};
+use point_exits::{ExitGroup, Numbering};
 use std::alloc::Global;
 
 /// What is made of the rows of a table of an application, one after another.
@@ -52,16 +52,15 @@ pub fn fold_rows<F: RowFold>(
 {
     let numbered = table.numbered_rows(alloc)?;
     let rows = numbered.rows;
-    let mut pool = numbered.pool;
     if rows.len() == 0 {
         return Ok(());
     }
-    let mut levels = Levels::new(alloc, app, &pool)?;
+    let mut numbering = Numbering::new(alloc, app, numbered.pool)?;
     for row in rows.as_slice() {
         if !made.asks_for(app, row.point) {
             continue;
         }
-        let groups = row_groups(alloc, app, row, &mut pool, &mut levels)?;
+        let groups = row_groups(alloc, &mut numbering, row)?;
         made.add(alloc, app, row.point, groups.as_slice())?;
     }
     Ok(())
