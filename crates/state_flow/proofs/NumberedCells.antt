@@ -1,11 +1,10 @@
 -- Cells of numbered entries: what may be joined to them, and that they stay as the pool grows.
 use Rattle.std.proofs.Common.{◌≡◌, ℕ, ◌+◌, ◌<◌, ◌≤◌, false, Option, None, List, [], ◌∷◌, length, get_or, set, map, refl, sym, ap, ap₂, subst, ◌∙◌, inl, inr, arith, All}
 use Rattle.std.specs.{Prelude.{option_map, Contains}, Option.{ForSome}}
-use Rattle.std.proofs.lemmas.{Bool.{cases_lt}, List.{length-map, map-set, get_or-map}}
+use Rattle.std.proofs.lemmas.List.{length-map, map-set, get_or-map}
 use Rattle.osek_standard.specs.declared.{app.App.{App}, point.Point.{Point}}
 use Rattle.osek_standard.proofs.Members.{Among, among_contained}
-use Rattle.abstract_state.specs.{declared.{table.PlainEntry.{PlainEntry}, value.Domain.{Domain}}, Components.{components, component_count}, Domains.{domain_of, domains_of}}
-use Rattle.abstract_state.proofs.ComponentLaws.{task_counted}
+use Rattle.abstract_state.specs.declared.{table.PlainEntry.{PlainEntry}, value.Domain.{Domain}}
 use Rattle.numbered_sets.specs.{declared.{numbered_entry.NumberedEntry.{NumberedEntry}, table.NumberedRow.{NumberedRow}}, Numbers.{Numbers}, NumberedEntries.{number_domains, entry_numbers, AreSoundNumbers, IsBelowNumbers}}
 use Rattle.numbered_sets.specs.{Pools.{Values, no_values, pool_domains, AreValues, IsLonger}, Views.{plain_entry, AreNumbersOf}}
 use Rattle.numbered_sets.proofs.{ViewLaws.{same_view, still_known, same_heights, same_domains}, KnownNumbers.{known_sound}}
@@ -183,12 +182,3 @@ module _ (app : App) (pool : List Values) (cells : List (Cell NumberedEntry)) (p
 pub domains_kept : (ds : List Domain) → pool_domains (map no_values ds) ≡ ds
 domains_kept [] = refl
 domains_kept (d ∷ ds) = ap (λ (es : List Domain). d ∷ es) (domains_kept ds)
-
--- a pool for the application's components has values of each task
-pub tasks_few : (app : App) (pool : List Values) → pool_domains pool ≡ domains_of app → length app.tasks ≤ length pool
-tasks_few app pool e =
-    let size : length pool ≡ component_count app = sym (length-map pool (λ (x : Values). x.domain)) ∙ ap (λ (ds : List Domain). length ds) e ∙ length-map (components app) (domain_of app) in
-    elim (cases_lt (length pool) (length app.tasks)) [
-      | inl more ↦ (let counted = task_counted app (length pool) more in absurd (omega (arith, counted, size)))
-      | inr few ↦ few
-    ]

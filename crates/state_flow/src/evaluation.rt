@@ -1,104 +1,92 @@
 //! The evaluation of a point that waits.
 ghost use Rattle.std.specs.Prelude.{◌≡◌, ◌∷◌, [], ◌+◌, ℕ, Contains, OnOk};
 ghost use Rattle.abstract_state.specs.Domains.{HasMasks};
-ghost use Rattle.numbered_sets.specs.{declared.table.NumberedRow.{NumberedRow}, Pools.{IsLonger}};
-ghost use Rattle.point_exits.specs.Levels.{AreLevels};
+ghost use Rattle.numbered_sets.specs.declared.table.NumberedRow.{NumberedRow};
+ghost use Rattle.point_exits.specs.Growing.{IsGrown};
 ghost use Rattle.state_flow.specs.{Cells.{IsWaitingCell}, Numbering.{AreNumberedCells, AreRowsEvaluated, HasProgress, IsKnownRow}};
 
 use crate::cells::Cell;
 use crate::joining::join_groups;
 use crate::parts::{grow_by_few, rows_to_evaluate};
-use numbered_sets::{NumberedEntry, NumberedRow, Pool};
-use osek_standard::App;
+use numbered_sets::{NumberedEntry, NumberedRow};
 use osek_values::Memory;
-use point_exits::{Levels, exit_groups};
+use point_exits::{Numbering, exit_groups};
 use std::alloc::Global;
 
-/// Evaluates a point that waits, and joins in what it leads to. The pool grows by the values that it lacks, and the levels with it.
+/// Evaluates a point that waits, and joins in what it leads to. The numbering grows by the values that it lacks.
 pub fn turn(
     alloc: Global,
-    app: &App,
-    pool: &mut Pool,
-    levels: &mut Levels,
+    numbering: &mut Numbering,
     cells: &mut Vec<Cell<NumberedEntry>>,
     place: usize,
 ) -> Result<(), Memory>
-    requires masks { HasMasks app.now }
-    requires levels { AreLevels app.now pool.old levels.old }
-    requires cells { AreNumberedCells app.now pool.old cells.old.items }
+    requires masks { HasMasks numbering.old.app.now }
+    requires cells { AreNumberedCells numbering.old.app.now numbering.old.pool cells.old.items }
     requires waits { IsWaitingCell cells.old.items place }
-    ensures levels { OnOk result (AreLevels app.now pool.new levels.new) }
-    ensures progress { OnOk result ((n : ℕ) → HasProgress app.now pool.old cells.old.items n → HasProgress app.now pool.new cells.new.items (n + 1)) }
+    ensures grown { IsGrown numbering.old numbering.new }
+    ensures progress { OnOk result ((n : ℕ) → HasProgress numbering.old.app.now numbering.old.pool cells.old.items n → HasProgress numbering.old.app.now numbering.new.pool cells.new.items (n + 1)) }
 {
-    if grow_by_few(app) {
-        evaluate_news(alloc, app, pool, levels, cells, place)
+    if grow_by_few(numbering.app) {
+        evaluate_news(alloc, numbering, cells, place)
     } else {
-        evaluate_whole(alloc, app, pool, levels, cells, place)
+        evaluate_whole(alloc, numbering, cells, place)
     }
 }
 
 // by the numbers that are new since it was evaluated last
 fn evaluate_news(
     alloc: Global,
-    app: &App,
-    pool: &mut Pool,
-    levels: &mut Levels,
+    numbering: &mut Numbering,
     cells: &mut Vec<Cell<NumberedEntry>>,
     place: usize,
 ) -> Result<(), Memory>
-    requires masks { HasMasks app.now }
-    requires levels { AreLevels app.now pool.old levels.old }
-    requires cells { AreNumberedCells app.now pool.old cells.old.items }
+    requires masks { HasMasks numbering.old.app.now }
+    requires cells { AreNumberedCells numbering.old.app.now numbering.old.pool cells.old.items }
     requires waits { IsWaitingCell cells.old.items place }
-    ensures levels { OnOk result (AreLevels app.now pool.new levels.new) }
-    ensures progress { OnOk result ((n : ℕ) → HasProgress app.now pool.old cells.old.items n → HasProgress app.now pool.new cells.new.items (n + 1)) }
+    ensures grown { IsGrown numbering.old numbering.new }
+    ensures progress { OnOk result ((n : ℕ) → HasProgress numbering.old.app.now numbering.old.pool cells.old.items n → HasProgress numbering.old.app.now numbering.new.pool cells.new.items (n + 1)) }
 {
     let cell = &mut cells[place];
     let rows = rows_to_evaluate(alloc, cell)?;
-    evaluate_each(alloc, app, rows.as_slice(), pool, levels, cells)
+    evaluate_each(alloc, numbering, rows.as_slice(), cells)
 }
 
 // by all its numbers
 fn evaluate_whole(
     alloc: Global,
-    app: &App,
-    pool: &mut Pool,
-    levels: &mut Levels,
+    numbering: &mut Numbering,
     cells: &mut Vec<Cell<NumberedEntry>>,
     place: usize,
 ) -> Result<(), Memory>
-    requires masks { HasMasks app.now }
-    requires levels { AreLevels app.now pool.old levels.old }
-    requires cells { AreNumberedCells app.now pool.old cells.old.items }
+    requires masks { HasMasks numbering.old.app.now }
+    requires cells { AreNumberedCells numbering.old.app.now numbering.old.pool cells.old.items }
     requires waits { IsWaitingCell cells.old.items place }
-    ensures levels { OnOk result (AreLevels app.now pool.new levels.new) }
-    ensures progress { OnOk result ((n : ℕ) → HasProgress app.now pool.old cells.old.items n → HasProgress app.now pool.new cells.new.items (n + 1)) }
+    ensures grown { IsGrown numbering.old numbering.new }
+    ensures progress { OnOk result ((n : ℕ) → HasProgress numbering.old.app.now numbering.old.pool cells.old.items n → HasProgress numbering.old.app.now numbering.new.pool cells.new.items (n + 1)) }
 {
     let cell = &mut cells[place];
     cell.waiting = false;
     cell.before = None;
-    let groups = exit_groups(alloc, app, cell.point, cell.entry.get(), pool, levels)?;
-    join_groups(alloc, app, groups, pool, cells)
+    let app = numbering.app;
+    let groups = exit_groups(alloc, numbering, cell.point, cell.entry.get())?;
+    join_groups(alloc, app, groups, &numbering.pool, cells)
 }
 
 // evaluates rows, one after the other
 fn evaluate_each(
     alloc: Global,
-    app: &App,
+    numbering: &mut Numbering,
     rows: &[NumberedRow],
-    pool: &mut Pool,
-    levels: &mut Levels,
     cells: &mut Vec<Cell<NumberedEntry>>,
 ) -> Result<(), Memory>
-    requires masks { HasMasks app.now }
-    requires levels { AreLevels app.now pool.old levels.old }
-    requires cells { AreNumberedCells app.now pool.old cells.old.items }
-    requires rows { (row : NumberedRow) → Contains rows.now row → IsKnownRow app.now pool.old row }
-    ensures levels { OnOk result (AreLevels app.now pool.new levels.new) }
-    ensures evaluated { OnOk result (AreRowsEvaluated app.now pool.old rows.now cells.old.items pool.new cells.new.items) }
+    requires masks { HasMasks numbering.old.app.now }
+    requires cells { AreNumberedCells numbering.old.app.now numbering.old.pool cells.old.items }
+    requires rows { (row : NumberedRow) → Contains rows.now row → IsKnownRow numbering.old.app.now numbering.old.pool row }
+    ensures grown { IsGrown numbering.old numbering.new }
+    ensures evaluated { OnOk result (AreRowsEvaluated numbering.old.app.now numbering.old.pool rows.now cells.old.items numbering.new.pool cells.new.items) }
 {
     for row in rows {
-        evaluate(alloc, app, row, pool, levels, cells)?;
+        evaluate(alloc, numbering, row, cells)?;
     }
     Ok(())
 }
@@ -106,20 +94,17 @@ fn evaluate_each(
 // joins in what a row leads to
 fn evaluate(
     alloc: Global,
-    app: &App,
+    numbering: &mut Numbering,
     row: &NumberedRow,
-    pool: &mut Pool,
-    levels: &mut Levels,
     cells: &mut Vec<Cell<NumberedEntry>>,
 ) -> Result<(), Memory>
-    requires masks { HasMasks app.now }
-    requires levels { AreLevels app.now pool.old levels.old }
-    requires cells { AreNumberedCells app.now pool.old cells.old.items }
-    requires row { IsKnownRow app.now pool.old row.now }
-    ensures pool { IsLonger pool.old pool.new }
-    ensures levels { OnOk result (AreLevels app.now pool.new levels.new) }
-    ensures evaluated { OnOk result (AreRowsEvaluated app.now pool.old (row.now ∷ []) cells.old.items pool.new cells.new.items) }
+    requires masks { HasMasks numbering.old.app.now }
+    requires cells { AreNumberedCells numbering.old.app.now numbering.old.pool cells.old.items }
+    requires row { IsKnownRow numbering.old.app.now numbering.old.pool row.now }
+    ensures grown { IsGrown numbering.old numbering.new }
+    ensures evaluated { OnOk result (AreRowsEvaluated numbering.old.app.now numbering.old.pool (row.now ∷ []) cells.old.items numbering.new.pool cells.new.items) }
 {
-    let groups = exit_groups(alloc, app, row.point, &row.entry, pool, levels)?;
-    join_groups(alloc, app, groups, pool, cells)
+    let app = numbering.app;
+    let groups = exit_groups(alloc, numbering, row.point, &row.entry)?;
+    join_groups(alloc, app, groups, &numbering.pool, cells)
 }

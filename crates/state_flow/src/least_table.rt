@@ -3,7 +3,6 @@ ghost use Rattle.std.specs.Prelude.{◌≡◌, ◌+◌, ◌*◌, ◌<◌, ◌≤
 ghost use Rattle.osek_standard.specs.Counts.{points, height};
 ghost use Rattle.abstract_state.specs.{Domains.{HasMasks, domains as domains_of_entry, domains_of}, Tables.{Least, sets_of, value_count}, Written.{IsWritten}};
 ghost use Rattle.numbered_sets.specs.Pools.{pool_domains, IsLonger};
-ghost use Rattle.point_exits.specs.Levels.{AreLevels};
 ghost use Rattle.state_flow.specs.{Cells.{IsWaitingCell}, Progress.{Progress}, PlainCells.{plain_cells, AreCellsOf}, Numbering.{AreNumberedCells, HasProgress}};
 
 use crate::cells::{Cell, next_waiting};
@@ -13,7 +12,7 @@ use abstract_state::{Domain, LiveVal, PartValue, PlainEntry, Val, masks_are_few}
 use numbered_sets::{NumberedEntry, Pool, Table, numbered};
 use osek_standard::App;
 use osek_values::{BlockNo, Held, Memory, ModeNo, Steps};
-use point_exits::{Levels, start_row};
+use point_exits::{Numbering, start_row};
 use std::alloc::Global;
 use std::sync::ledger::Ledger;
 use table_rows::place_behind;
@@ -32,17 +31,17 @@ pub fn solve<L: Ledger>(alloc: Global, app: &App, steps: &mut Steps<L>) -> Resul
     masks_are_few(app);
     let mut pool = pool_of(alloc, app)?;
     let mut cells = started(alloc, app, &mut pool)?;
-    let mut levels = Levels::new(alloc, app, &pool)?;
+    let mut numbering = Numbering::new(alloc, app, pool)?;
     let mut from = 0;
     // sweeps upward over the points: what a point leads to stands mostly above it
     while let Some(place) = next_waiting(cells.as_slice(), from) {
         steps.tick();
         let point = cells[place].point;
-        turn(alloc, app, &mut pool, &mut levels, &mut cells, place)?;
+        turn(alloc, &mut numbering, &mut cells, place)?;
         from = place_behind(cells.as_slice(), point.number());
     }
     let rows = rows(alloc, cells)?;
-    Ok(Table::of(pool, rows))
+    Ok(Table::of(numbering.pool, rows))
 }
 
 /// A pool for the application's components. The values of a task that holds nothing have the first numbers: they stand in most

@@ -8,20 +8,20 @@ use Rattle.state_flow.proofs.evaluation.evaluate_news.Goals as goal
 
 pub rows_to_evaluate-requires-clause-filled : goal.rows_to_evaluate-requires-clause-filled
 rows_to_evaluate-requires-clause-filled c =
-    let app = c.args.app.now in
-    let pool = c.args.pool.now in
+    let app = c.args.numbering.now.app.now in
+    let pool = c.args.numbering.now.pool in
     let cells = c.args.cells.now.items in
     let cell = c.index_mut-cell.result.now in
     let here = sym c.index_mut-cell.ensures.value in
     numbers_filled app c.requires.masks cell.point pool cell.entry (numbers_there app pool cells c.args.place cell c.requires.cells c.requires.waits here) (proper_there app pool cells c.args.place cell c.requires.cells c.requires.waits here)
 
 pub rows_to_evaluate-requires-clause-alike : goal.rows_to_evaluate-requires-clause-alike
-rows_to_evaluate-requires-clause-alike c = kept_long c.args.app.now c.args.pool.now c.args.cells.now.items c.args.place c.index_mut-cell.result.now c.requires.cells c.requires.waits (sym c.index_mut-cell.ensures.value)
+rows_to_evaluate-requires-clause-alike c = kept_long c.args.numbering.now.app.now c.args.numbering.now.pool c.args.cells.now.items c.args.place c.index_mut-cell.result.now c.requires.cells c.requires.waits (sym c.index_mut-cell.ensures.value)
 
 pub evaluate_each-requires-clause-cells : goal.evaluate_each-requires-clause-cells
 evaluate_each-requires-clause-cells c =
-    let app = c.args.app.now in
-    let pool = c.args.pool.now in
+    let app = c.args.numbering.now.app.now in
+    let pool = c.args.numbering.now.pool in
     let cells = c.args.cells.now.items in
     let cell = c.index_mut-cell.result.now in
     let kept = c.rows_to_evaluate.new.cell.before in
@@ -30,8 +30,8 @@ evaluate_each-requires-clause-cells c =
 
 pub evaluate_each-requires-clause-rows : goal.evaluate_each-requires-clause-rows
 evaluate_each-requires-clause-rows c row m =
-    let app = c.args.app.now in
-    let pool = c.args.pool.now in
+    let app = c.args.numbering.now.app.now in
+    let pool = c.args.numbering.now.pool in
     let cells = c.args.cells.now.items in
     let cell = c.index_mut-cell.result.now in
     let here = sym c.index_mut-cell.ensures.value in
@@ -40,13 +40,13 @@ evaluate_each-requires-clause-rows c row m =
 
 pub returns-clause-progress : goal.returns-clause-progress
 returns-clause-progress c =
-    let app = c.args.app.now in
-    let pool = c.args.pool.now in
+    let app = c.args.numbering.now.app.now in
+    let pool = c.args.numbering.now.pool in
     let cells = c.args.cells.now.items in
     let cell = c.index_mut-cell.result.now in
     let kept = c.rows_to_evaluate.new.cell.before in
     let rows = c.in_ok-rows.rows.items in
-    let after = c.evaluate_each.new.pool in
+    let after = c.evaluate_each.new.numbering.pool in
     let end = c.evaluate_each.new.cells.items in
     on_ok_weaker c.evaluate_each.result
     (λ done n progress.

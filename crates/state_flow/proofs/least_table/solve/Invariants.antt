@@ -1,11 +1,10 @@
 use Rattle.std.proofs.Common.{◌≡◌, ◌+◌, ◌-◌, ◌*◌, ℕ}
 use Rattle.osek_standard.specs.Counts.{points, height}
-use Rattle.point_exits.specs.Levels.{AreLevels}
 use Rattle.state_flow.specs.Numbering.{HasProgress}
 use Rattle.state_flow.proofs.least_table.solve.Given as goal
 
 abbrev pub invariant-loop-place : goal.invariant-loop-place
-invariant-loop-place g l = (n : ℕ) × (l.steps ≡ l.initial.steps + n) × HasProgress l.app l.pool l.cells.items n × AreLevels l.app l.pool l.levels
+invariant-loop-place g l = (n : ℕ) × (l.steps ≡ l.initial.steps + n) × HasProgress l.app l.numbering.pool l.cells.items n × (l.numbering.app.now ≡ l.app)
 
 abbrev pub decreases-loop-place : goal.decreases-loop-place
 decreases-loop-place g l = l.initial.steps + (points l.app + points l.app * height l.app) - l.steps
