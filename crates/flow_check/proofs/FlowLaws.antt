@@ -8,7 +8,7 @@ use Rattle.abstract_state.proofs.EqualityLaws.{written_entry}
 use Rattle.numbered_sets.specs.{declared.table.NumberedRow.{NumberedRow}, Pools.{Values, AreValues, IsLonger}, Views.{AreNumbersOf}}
 use Rattle.numbered_sets.specs.PlainTables.{plain_row, plain_rows, plain_table}
 use Rattle.numbered_sets.proofs.NumberingLaws.{longer_onward}
-use Rattle.point_exits.specs.{declared.{group.ExitGroup.{ExitGroup}, levels.Levels.{Levels}}, Groups.{all_exits, AreKnownGroups}, Levels.{AreLevels}, Rows.{IsProperRow}}
+use Rattle.point_exits.specs.{declared.group.ExitGroup.{ExitGroup}, Groups.{all_exits, AreKnownGroups}, Rows.{IsProperRow}}
 use Rattle.table_rows.specs.Rows.{number_of, AreRowsFrom, AreExitsOf}
 use Rattle.table_rows.proofs.TableRows.{same_row_then, same_table, rows_grown, listed_plain, in_order, plain_proper}
 use Rattle.flow_check.specs.{declared.{found.Findings.{Findings}}, Staying.{AreAllIn, IsSomeGroupOut}}
@@ -17,9 +17,8 @@ use Rattle.flow_check.specs.{Outcomes.{AreFound}, Verdicts.{Leaves}, Flows.{Stay
 use Rattle.flow_check.proofs.StayLaws.{row_stays, row_leaves}
 
 -- The steps from the first rows stay in the table, and this is found over them.
-pub record HasPassed (app : App) (first pool : List Values) (rows : List NumberedRow) (k : ℕ) (its : Levels) (sites : List (Option Findings)) : Type 0 where
+pub record HasPassed (app : App) (first pool : List Values) (rows : List NumberedRow) (k : ℕ) (sites : List (Option Findings)) : Type 0 where
   pub longer : IsLonger first pool
-  pub levels : AreLevels app pool its
   pub found : AreFound app (take k (plain_rows first rows)) sites
   pub stay : (i : ℕ) (d : NumberedRow) → i < k → StaysFrom app (sets_of (plain_table first rows)) (get_or rows i d).point
 

@@ -32,7 +32,7 @@ pub fn check(alloc: Global, image: &Image, table: &Table) -> Result<Verdict, Mem
     if let Some(mode) = first_start_out(alloc, app, rows, &mut pool)? {
         return Ok(Verdict::N1(mode));
     }
-    match flow_of(alloc, app, rows, &mut pool)? {
+    match flow_of(alloc, app, rows, pool)? {
         Flow::Leaves(point) => Ok(Verdict::N2(point)),
         Flow::Stays(found) => Ok(verdict_by(image, found.as_slice())),
     }

@@ -1,6 +1,6 @@
 //! The steps from the rows of a table: whether they stay in it, and what they show at the sites.
 ghost use Rattle.std.specs.Prelude.{◌≡◌, ◌<◌, length, IfOk, OnOk};
-ghost use Rattle.numbered_sets.specs.{Pools.{IsLonger}, PlainTables.{plain_table}};
+ghost use Rattle.numbered_sets.specs.PlainTables.{plain_table};
 ghost use Rattle.table_rows.specs.Rows.{AreRowsFrom};
 ghost use Rattle.flow_check.specs.Flows.{IsFlow};
 
@@ -11,7 +11,7 @@ use abstract_state::Point;
 use numbered_sets::{NumberedRow, Pool};
 use osek_standard::App;
 use osek_values::{Memory, Seq};
-use point_exits::Levels;
+use point_exits::Numbering;
 use std::alloc::Global;
 use table_rows::row_groups;
 
@@ -29,17 +29,17 @@ pub(crate) fn flow_of(
     alloc: Global,
     app: &App,
     rows: &[NumberedRow],
-    pool: &mut Pool,
+    pool: Pool,
 ) -> Result<Flow, Memory>
-    requires rows { AreRowsFrom app.now pool.old rows.now }
+    requires rows { AreRowsFrom app.now pool rows.now }
     requires some { 0 < length rows.now }
-    ensures { IfOk result (IsFlow app.now (plain_table pool.old rows.now)) }
+    ensures { IfOk result (IsFlow app.now (plain_table pool rows.now)) }
 {
     let mut sites = no_findings(alloc, app)?;
-    let mut levels = Levels::new(alloc, app, pool)?;
+    let mut numbering = Numbering::new(alloc, app, pool)?;
     for row in rows {
-        let groups = row_groups(alloc, app, row, pool, &mut levels)?;
-        pool.are_values();
+        let groups = row_groups(alloc, &mut numbering, row)?;
+        numbering.pool.are_values();
         let stay = all_stay(alloc, groups.as_slice(), rows)?;
         if !stay {
             return Ok(Flow::Leaves(row.point));

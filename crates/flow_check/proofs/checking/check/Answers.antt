@@ -59,8 +59,8 @@ verdict_by-requires c =
     let stays = subst (IsFlow i.app (plain_table after rows)) c.in-Stays.is c.in_ok-point.ensures in
     ap (λ (sites : List (Option Findings)). length sites) c.as_slice.ensures ∙ (all_found i table c.requires pool rows are starts after c.in_ok-mode.ensures.pool c.in-Stays.found stays).count
 
-pub returns-clause-verdict : goal.returns-clause-verdict
-returns-clause-verdict c =
+pub returns-in-Stays-clause-verdict : goal.returns-in-Stays-clause-verdict
+returns-in-Stays-clause-verdict c =
     let i = c.args.image.now in
     let table = c.args.table.now in
     let pool = c.in_ok-numbered.numbered.pool in
@@ -73,8 +73,8 @@ returns-clause-verdict c =
     c.verdict_by.ensures table c.requires (inductive i table c.requires pool rows are starts after c.in_ok-mode.ensures.pool c.in-Stays.found stays)
     (subst (λ (sites : List (Option Findings)). AreFound i.app table.rows sites) (sym c.as_slice.ensures) (all_found i table c.requires pool rows are starts after c.in_ok-mode.ensures.pool c.in-Stays.found stays))
 
-pub returns-clause-kernel : goal.returns-clause-kernel
-returns-clause-kernel c =
+pub returns-in-Stays-clause-kernel : goal.returns-in-Stays-clause-kernel
+returns-in-Stays-clause-kernel c =
     let i = c.args.image.now in
     let table = c.args.table.now in
     let pool = c.in_ok-numbered.numbered.pool in
