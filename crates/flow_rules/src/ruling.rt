@@ -3,10 +3,10 @@ ghost use Rattle.std.specs.{Prelude.{◌≡◌, ◌≤◌, ◌++◌, length, IfO
 ghost use Rattle.osek_standard.specs.Points.{IsPoint};
 ghost use Rattle.abstract_state.specs.Domains.{domains, domains_of};
 ghost use Rattle.flow_model.specs.{Effects.{AreAllAllowed, IsKnownStay}, Rules.{Covering, Exact, Foresees}};
-ghost use Rattle.numbered_sets.specs.{NumberedEntries.{number_domains}, Pools.{IsLonger}, Views.{plain_entry, AreNumbersOf}};
+ghost use Rattle.numbered_sets.specs.{NumberedEntries.{number_domains}, Views.{plain_entry, AreNumbersOf}};
 ghost use Rattle.flow_exits.specs.Leaving.{effect_rule};
 ghost use Rattle.flow_rules.specs.Instructions.{AddsInstructionRules};
-ghost use Rattle.point_exits.specs.{Applying.{KeepsDomains}, Levels.{AreLevels}, OneProof.{SameDomains-prop}};
+ghost use Rattle.point_exits.specs.{Applying.{MayApply}, Growing.{IsGrown}, OneProof.{SameDomains-prop}};
 ghost use Rattle.flow_rules.specs.Ruling.{outcomes_by, AddsRulesOf};
 ghost use Rattle.point_exits.specs.Groups.{exit_at as exit_of_group, exits_of, all_exits, IsKnownGroup, AreKnownGroups};
 
@@ -20,7 +20,7 @@ use flow_model::{Change, EffectCase, OutcomeCase, Rule, Runner};
 use numbered_sets::{NumberedEntry, Pool, numbered, plain};
 use osek_standard::App;
 use osek_values::{Memory, Seq};
-use point_exits::{AfterEffect, BeforeEffect, Ends, ExitGroup, Levels};
+use point_exits::{AfterEffect, Ends, ExitGroup, Numbering};
 use std::alloc::Global;
 
 /// The rules of a point, over the values that its entry has: one for each routine that may begin there, and one for each
@@ -69,7 +69,7 @@ fn add_instructions(
     let from = allowed_part(alloc, app, point, &whole)?;
     let mut grown = pool.copy(alloc)?;
     let numbers = numbered(alloc, &mut grown, &from)?;
-    let mut levels = Levels::new(alloc, app, &grown)?;
+    let mut numbering = Numbering::new(alloc, app, grown)?;
     let effects = effect_cases(alloc, app, point, &[])?;
     let ruled = Ruled {
         app,
@@ -77,7 +77,7 @@ fn add_instructions(
         numbers: &numbers,
     };
     for effect in effects.as_slice() {
-        ruled.add_effect(alloc, effect, &mut grown, &mut levels, rules)?;
+        ruled.add_effect(alloc, effect, &mut numbering, rules)?;
     }
     Ok(())
 }
@@ -98,37 +98,30 @@ impl<'a> Ruled<'a> {
         &self,
         alloc: Global,
         effect: &EffectCase,
-        pool: &mut Pool,
-        levels: &mut Levels,
+        numbering: &mut Numbering,
         rules: &mut Seq<Rule>,
     ) -> Result<(), Memory>
-        requires plain { plain_entry pool.old self.now.numbers.now ≡ self.now.from.now }
-        requires numbers { AreNumbersOf pool.old self.now.numbers.now }
+        requires app { numbering.old.app.now ≡ self.now.app.now }
+        requires plain { plain_entry numbering.old.pool self.now.numbers.now ≡ self.now.from.now }
+        requires effect { MayApply (effect_rule effect.now) numbering.old.pool self.now.numbers.now }
         requires stays { IsKnownStay self.now.app.now effect.now.leaving.stay }
-        requires kept { KeepsDomains (effect_rule effect.now) (plain_entry pool.old self.now.numbers.now) }
-        requires levels { AreLevels self.now.app.now pool.old levels.old }
-        ensures pool { IsLonger pool.old pool.new }
-        ensures levels { OnOk result (AreLevels self.now.app.now pool.new levels.new) }
+        ensures grown { IsGrown numbering.old numbering.new }
         ensures added { OnOk result (AddsRulesOf self.now.app.now self.now.from.now effect.now rules.old rules.new) }
     {
-        let before = BeforeEffect {
-            app: self.app,
-            before: self.numbers,
-        };
-        let Some(after) = before.after(alloc, effect, pool, levels)? else {
+        let Some(after) = numbering.after(alloc, self.numbers, effect)? else {
             return Ok(());
         };
         // the conditions are on what isn't settled yet: a task may come in from values with which another thing is decided
         let mut groups = Vec::new(alloc);
         let values = AfterEffect {
             app: self.app,
-            pool: &*pool,
-            levels: &*levels,
+            pool: &numbering.pool,
+            levels: &numbering.levels,
             leaving: effect.leaving,
             after,
         };
         values.push_decided(alloc, &mut groups)?;
-        let exits = exits(alloc, pool, groups.as_slice())?;
+        let exits = exits(alloc, &numbering.pool, groups.as_slice())?;
         let changes = effect.changes.as_slice();
         let outcomes = self.outcomes(alloc, changes, exits.as_slice())?;
         add_rules(alloc, self.app, effect, outcomes.as_slice(), rules)

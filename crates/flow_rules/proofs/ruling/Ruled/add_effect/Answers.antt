@@ -1,6 +1,7 @@
 use Rattle.std.proofs.Common.{◌≡◌, ◌++◌, [], ◌∙◌, List, length, map, flat_map, sym, ap, subst}
 use Rattle.std.specs.{Prelude.{Contains, IfSome, IfNone}, declared.option.Option.{Option}}
 use Rattle.std.proofs.lemmas.Result.{on_ok_weaker}
+use Rattle.osek_standard.specs.declared.app.App.{App}
 use Rattle.abstract_state.specs.{declared.table.PlainEntry.{PlainEntry}, Components.{component_count}}
 use Rattle.osek_standard.proofs.Members.{contained_among}
 use Rattle.flow_model.specs.{declared.{case.OutcomeCase.{OutcomeCase}, change.Change.{Change}}, Rules.{Applies, HasNone}}
@@ -14,12 +15,14 @@ use Rattle.flow_rules.proofs.ruling.Ruled.add_effect.Goals as goal
 
 pub invariant_of-values : goal.invariant_of-values
 invariant_of-values c =
-    let is = subst (λ (o : Option NumberedEntry). IfSome o (IsAfter c.args.self.now.app.now c.args.effect.now c.args.self.now.numbers.now c.args.pool.now c.after.new.pool c.after.new.levels)) c.in-Some.is c.in_ok-after.ensures.some in
+    let after = c.after.new.self in
+    let is = subst (λ (app : App). IsAfter app c.args.effect.now c.args.self.now.numbers.now c.args.numbering.now.pool after.pool after.levels c.in-Some.after) c.requires.app
+    (subst (λ (o : Option NumberedEntry). IfSome o (IsAfter c.args.numbering.now.app.now c.args.effect.now c.args.self.now.numbers.now c.args.numbering.now.pool after.pool after.levels)) c.in-Some.is c.in_ok-after.ensures.some) in
     record { decidable = record { stay = c.requires.stays; levels = is.all; whole = is.whole } }
 
 pub exits-requires : goal.exits-requires
 exits-requires c =
-    let pool = c.after.new.pool in
+    let pool = c.after.new.self.pool in
     let none : AreKnownGroups pool c.new-groups.result.items = subst (AreKnownGroups pool) (sym c.new-groups.ensures.items) (λ g m. absurd (contained_among [] g m)) in
     λ g m. decided_known c.args.self.now.app.now pool c.args.effect.now.leaving c.in-Some.after c.new-groups.result.items c.push_decided.new.groups.items c.in_ok-push_decided.ensures none g
     (subst (λ (gs : List ExitGroup). Contains gs g) c.as_slice.ensures.value m)
@@ -27,7 +30,7 @@ exits-requires c =
 pub returns-in_default-clause-added : goal.returns-in_default-clause-added
 returns-in_default-clause-added c =
     let app = c.args.self.now.app.now in
-    let pool = c.args.pool.now in
+    let pool = c.args.numbering.now.pool in
     let rule = effect_rule c.args.effect.now in
     let size = sets_counted app pool c.args.self.now.numbers.now c.args.self.now.alike in
     let none : HasNone rule (plain_entry pool c.args.self.now.numbers.now) = subst (λ (o : Option NumberedEntry). IfNone o (HasNone rule (plain_entry pool c.args.self.now.numbers.now))) c.in_default.is c.in_ok-after.ensures.none in
@@ -39,12 +42,13 @@ returns-clause-added c =
     let from = c.args.self.now.from.now in
     let effect = c.args.effect.now in
     let before = c.args.rules.now in
-    let pool = c.args.pool.now in
-    let after = c.after.new.pool in
+    let pool = c.args.numbering.now.pool in
+    let after = c.after.new.self.pool in
     let made = c.in-Some.after in
     let groups = c.push_decided.new.groups.items in
     let exits = c.in_ok-exits.exits in
-    let is = subst (λ (o : Option NumberedEntry). IfSome o (IsAfter app effect c.args.self.now.numbers.now pool after c.after.new.levels)) c.in-Some.is c.in_ok-after.ensures.some in
+    let is = subst (λ (own : App). IsAfter own effect c.args.self.now.numbers.now pool after c.after.new.self.levels made) c.requires.app
+    (subst (λ (o : Option NumberedEntry). IfSome o (IsAfter c.args.numbering.now.app.now effect c.args.self.now.numbers.now pool after c.after.new.self.levels)) c.in-Some.is c.in_ok-after.ensures.some) in
     let h : AddsFor app after effect.leaving made IsAny [] groups = subst (λ (gs : List ExitGroup). AddsFor app after effect.leaving made IsAny gs groups) c.new-groups.ensures.items c.in_ok-push_decided.ensures in
     let size = subst (λ (e : PlainEntry). length e.sets ≡ component_count app) c.requires.plain (sets_counted app pool c.args.self.now.numbers.now c.args.self.now.alike) in
     let applies = subst (λ (e : PlainEntry). Applies (effect_rule effect) e (plain_entry after made)) c.requires.plain is.applies in
