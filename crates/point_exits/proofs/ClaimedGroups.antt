@@ -240,6 +240,10 @@ module _ (app : App) (pool : List Values) (levels : Levels) (all : AreAllLevels 
 pub winner_live : (app : App) (leaving : Leaving) (w : TaskNo) (value : ℕ → PartValue) → Decides app value leaving (decision.To (Some w)) → IsTrue (is_live_value (val_of (value w.0)))
 winner_live app leaving w value h = (winner_of app value leaving.last w leaving.asked h).best.is.live
 
+-- the running task is one of the application's
+pub running_known : (app : App) (pool : List Values) (entry : NumberedEntry) (a : Asked) (t : TaskNo) → a ≡ asked.Maybe t → IsAsked app pool entry a → t.0 < length app.tasks
+running_known app pool entry a t running is = (let alive : IsAlive app pool entry t.0 = subst (IsAsked app pool entry) running is in alive.known)
+
 -- and so is one that keeps it
 pub keeper_live : (app : App) (leaving : Leaving) (t : TaskNo) (value : ℕ → PartValue) → leaving.asked ≡ asked.Maybe t → Decides app value leaving decision.Keep → IsTrue (is_live_value (val_of (value t.0)))
 keeper_live app leaving t value running h =

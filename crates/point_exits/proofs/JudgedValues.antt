@@ -62,11 +62,11 @@ live_unmoved app u p b (OfAlarm x) h = h
 live_unmoved app u p b (OfSource x) h = record { live = h.live; priority = h.priority }
 
 -- it is at the level of that one
-pub placed_beside : (vs : List PartValue) (x : TaskLevels) (n m : ℕ) (found : Option ℕ) → IsBeside vs n m → IfSome found (λ k. k < length x.levels)
-    → IfSome found (λ k. (d : Level) → IsTrue (has_number (get_or x.levels k d).numbers m))
-    → IfSome found (λ k. (app : App) (u : ℕ) (d : Level) (v : PartValue) → AreTaskLevels app u vs x → IsNumberOf vs v n → IsLiveAt app u (get_or x.levels k d).priority v)
-placed_beside vs x n m None beside known has = tt
-placed_beside vs x n m (Some k) beside known has = λ app u d v h is.
+pub placed_beside : (app : App) (u : ℕ) (vs : List PartValue) (x : TaskLevels) (n m : ℕ) (found : Option ℕ) → AreTaskLevels app u vs x → IsBeside vs n m
+    → IfSome found (λ k. k < length x.levels) → IfSome found (λ k. (d : Level) → IsTrue (has_number (get_or x.levels k d).numbers m))
+    → IfSome found (λ k. (d : Level) (v : PartValue) → IsNumberOf vs v n → IsLiveAt app u (get_or x.levels k d).priority v)
+placed_beside app u vs x n m None h beside known has = tt
+placed_beside app u vs x n m (Some k) h beside known has = λ d v is.
     let level = get_or x.levels k d in
     let moved = beside v is in
     let live = h.levels level (Contains-get_or x.levels k d known) m v (has d) in

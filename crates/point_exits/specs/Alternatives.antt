@@ -1,15 +1,25 @@
 -- The ends of cases that differ in one condition alone.
 use Rattle.std.specs.Prelude.{◌≡◌, ◌⊎◌, ℕ, ◌<◌, List, length, IsTrue, Contains}
-use Rattle.osek_standard.specs.declared.point.Point.{Point}
+use Rattle.osek_standard.specs.declared.{app.App.{App}, point.Point.{Point}}
 use Rattle.abstract_state.specs.{declared.{value.PartValue.{PartValue}, table.PlainEntry.{PlainEntry}}, Domains.{IsWithin}, Tables.{set_at, is_member}}
-use Rattle.flow_model.specs.declared.test.Condition.{Condition}
+use Rattle.flow_model.specs.declared.{case.EffectCase.{EffectCase}, test.Condition.{Condition}}
 use Rattle.numbered_sets.specs.{declared.numbered_entry.NumberedEntry.{NumberedEntry}, Numbers.{Numbers}, NumberedEntries.{numbers_at}}
-use Rattle.numbered_sets.specs.{Passing.{IsSifted}, Pools.{Values, values_at}}
-use Rattle.point_exits.specs.declared.group.NumberEnd.{NumberEnd}
+use Rattle.numbered_sets.specs.{Passing.{IsSifted}, Pools.{Values, values_at}, Views.{plain_entry, AreNumbersOf}}
+use Rattle.flow_effects.specs.{declared.effects.Alternatives.{Alternatives}, Alternatives.{alternative_cases, AreApart}}
+use Rattle.flow_exits.specs.Leaving.{effect_rule}
+use Rattle.point_exits.specs.{declared.group.NumberEnd.{NumberEnd}, Applying.{KeepsDomains}}
 
 -- each value of an entry is one of its component's domain
 abbrev pub HasOwnValues : PlainEntry → Type 0
 HasOwnValues entry = (c : ℕ) (v : PartValue) → c < length entry.sets → IsTrue (is_member (set_at entry c) v) → IsWithin (set_at entry c).domain v
+
+-- Each of these cases, which differ in one condition alone, can be applied to numbers: they are those of values of their own
+-- domains, and so is what the case makes of these.
+pub record MayApplyEach (app : App) (alternatives : Alternatives) (pool : List Values) (entry : NumberedEntry) : Type 0 where
+  pub numbers : AreNumbersOf pool entry
+  pub own : HasOwnValues (plain_entry pool entry)
+  pub apart : AreApart app alternatives
+  pub kept : (x : EffectCase) → Contains (alternative_cases alternatives) x → KeepsDomains (effect_rule x) (plain_entry pool entry)
 
 -- the numbers are those of the entry's values that pass
 abbrev pub IsSiftedFor : List Values → NumberedEntry → Condition → Numbers → Type 0

@@ -3,7 +3,7 @@ use Rattle.std.specs.{Prelude.{◌≡◌, ℕ, ◌<◌, Bool, false, ◌==◌, L
 use Rattle.abstract_state.specs.{declared.value.PartValue.{PartValue}, Domains.{IsWithin}, Tables.{is_member}}
 use Rattle.flow_model.specs.{declared.{change.Change.{Change}, rule.Rule.{Rule}}, Tests.{updated, value_after}}
 use Rattle.numbered_sets.specs.{declared.numbered_entry.NumberedEntry.{NumberedEntry}, Numbers.{Numbers, has_number}, NumberedEntries.{no_set, numbers_at}}
-use Rattle.numbered_sets.specs.{Pools.{Values, values_at, domain_at, IsLonger}, Views.{plain_set}}
+use Rattle.numbered_sets.specs.{Pools.{Values, values_at, domain_at, IsNumberOf, IsLonger}, Views.{plain_set}}
 use Rattle.point_exits.specs.Applying.{IsPassedSet, bare_rule}
 
 abbrev pub names : ℕ → Change → Bool
@@ -36,6 +36,12 @@ pub record StaysIn (pool : List Values) (c : ℕ) (becomes : PartValue → PartV
   pub alike : numbers.domain ≡ domain_at pool c
   pub listed : (n : ℕ) → IsTrue (has_number numbers n) → n < length (values_at pool c)
   pub within : (v : PartValue) → IsTrue (is_member (plain_set (values_at pool c) numbers) v) → IsWithin (domain_at pool c) (becomes v)
+
+-- So it is of the value with one number.
+pub record StaysAt (pool : List Values) (c : ℕ) (becomes : PartValue → PartValue) (n : ℕ) : Type 0 where
+  pub known : c < length pool
+  pub listed : n < length (values_at pool c)
+  pub within : (v : PartValue) → IsNumberOf (values_at pool c) v n → IsWithin (domain_at pool c) (becomes v)
 
 -- what the changes make of the entry's values of a component is of its domain, where the change at a place is the first that names it
 pub record StaysWithin (xs : List Change) (k : ℕ) (pool : List Values) (entry : NumberedEntry) : Type 0 where

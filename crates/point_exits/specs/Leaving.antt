@@ -4,12 +4,12 @@ use Rattle.osek_standard.specs.declared.{app.App.{App}, point.Point.{Point}}
 use Rattle.abstract_state.specs.declared.{table.PlainEntry.{PlainEntry}, value.PartValue.{PartValue}}
 use Rattle.flow_model.specs.declared.change.Change.{Change}
 use Rattle.flow_model.specs.declared.change.Update.TheVariants as update
-use Rattle.flow_model.specs.{declared.{case.EffectCase.{EffectCase}, rule.Rule.{Rule}}, Effects.{AreAllAllowed, HaveKnownStays, CoverEffects, AreExactEffects}}
+use Rattle.flow_model.specs.{declared.{case.EffectCase.{EffectCase}, rule.Rule.{Rule}}, Effects.{AreAllAllowed, IsKnownStay, HaveKnownStays, CoverEffects, AreExactEffects}}
 use Rattle.flow_model.specs.Rules.{Applies}
 use Rattle.numbered_sets.specs.{declared.numbered_entry.NumberedEntry.{NumberedEntry}, Pools.{Values, IsLonger}, Views.{plain_entry}}
 use Rattle.flow_exits.specs.{Arrivals.{AreArrivals}, declared.exit.Exit.{Exit}, Leaving.{IsOfEffects, HasExitsFor, IsArrivalExit, HasArrivalsFor, effect_rule}}
 use Rattle.point_exits.specs.declared.{group.{NumberEnd.{NumberEnd}, ExitGroup.{ExitGroup}}, levels.Levels.{Levels}}
-use Rattle.point_exits.specs.{Applying.{IsAloneIn}, Groups.{with_end, all_exits, IsKnownEnd, AreKnownGroups}, Levels.{AreAllLevels}, Deciding.{IsWhole}}
+use Rattle.point_exits.specs.{Applying.{IsAloneIn, MayApply}, Groups.{with_end, all_exits, IsKnownEnd, AreKnownGroups}, Levels.{AreAllLevels}, Deciding.{IsWhole}}
 
 -- exits by which routines begin come to others, those of the rules with a property among them
 pub record AddsRoutines (app : App) (p : Point) (entry : PlainEntry) (P : Rule → Type 0) (pool : List Values) (before : List ExitGroup) (after : List Values) (now : List ExitGroup) : Type 0 where
@@ -71,6 +71,11 @@ pub record AddsArrivals (app : App) (p : Point) (entry : PlainEntry) (pool : Lis
   pub rules : List Rule
   pub are : AreArrivals app p rules
   pub added : AddsRoutines app p entry (Contains rules) pool before after now
+
+-- An effect can be applied to numbers, and the task exists at whose block the processor may stay.
+pub record MayTakeEffect (app : App) (effect : EffectCase) (pool : List Values) (entry : NumberedEntry) : Type 0 where
+  pub applies : MayApply (effect_rule effect) pool entry
+  pub stay : IsKnownStay app effect.leaving.stay
 
 -- These are what the effect makes of the values that it takes, in a pool that grew, and all values have their levels there.
 pub record IsAfter (app : App) (effect : EffectCase) (entry : NumberedEntry) (pool grown : List Values) (levels : Levels) (after : NumberedEntry) : Type 0 where

@@ -2,13 +2,13 @@
 use Rattle.std.specs.{Prelude.{◌≡◌, ◌≢◌, ℕ, ◌<◌, ◌≤◌, ◌+◌, ◌&&◌, ◌||◌, Bool, false, List, [], length, map, slice_index_or, slice_set, IsTrue, is_some, Contains}, List.{list_any}}
 use Rattle.osek_values.specs.{Numbers.{task_no}, declared.numbers.TaskNo.{TaskNo}}
 use Rattle.osek_standard.specs.{declared.app.App.{App}, Internal.{internal_of}}
-use Rattle.abstract_state.specs.{declared.value.PartValue.{PartValue}, Concrete.{val_of}, Domains.{IsWithin}}
+use Rattle.abstract_state.specs.{declared.value.PartValue.{PartValue}, Concrete.{val_of}, Domains.{IsWithin, domains_of}}
 use Rattle.flow_model.specs.declared.change.Update.TheVariants as update
 use Rattle.flow_model.specs.{Values.{is_live_value, value_priority}, Tests.{updated}}
 use Rattle.numbered_sets.specs.{declared.numbered_entry.NumberedEntry.{NumberedEntry}, Numbers.{Numbers, has_number}, NumberedEntries.{numbers_at}}
-use Rattle.numbered_sets.specs.Pools.{Values, values_at, domain_at, IsNumberOf}
+use Rattle.numbered_sets.specs.Pools.{Values, values_at, domain_at, pool_domains, IsNumberOf}
 use Rattle.flow_exits.specs.Claims.{is_below}
-use Rattle.point_exits.specs.declared.{insides.Insides.{Insides}, task_levels.{Level.{Level}, TaskLevels.{TaskLevels}}, levels.Levels.{Levels}}
+use Rattle.point_exits.specs.declared.{insides.Insides.{Insides}, task_levels.{Level.{Level}, TaskLevels.{TaskLevels}, TaskValues.{TaskValues}}, levels.Levels.{Levels}}
 use Rattle.point_exits.specs.Arrivals.{AreKnownArrivals}
 
 -- with this value task u is Live, at this current priority
@@ -36,6 +36,15 @@ pub record AreTaskLevels (app : App) (u : ℕ) (vs : List PartValue) (x : TaskLe
   pub dead : AreOf IsDead vs x.judged x.dead
   pub levels : (level : Level) → Contains x.levels level → IsLevel app u vs x.judged level
   pub whole : (n : ℕ) → n < x.judged → IsTrue (has_number x.dead n || is_at_level x.levels n)
+
+-- the first of a task's values
+abbrev pub AreLevelsOf : TaskValues → TaskLevels → Type 0
+AreLevelsOf values x = AreTaskLevels values.app.now values.task.0 (values_at values.pool.now values.task.0) x
+
+-- there is a next value
+pub record HasNext (values : TaskValues) (x : TaskLevels) : Type 0 where
+  pub levels : AreLevelsOf values x
+  pub next : x.judged < length (values_at values.pool.now values.task.0)
 
 -- the next value was judged too
 abbrev pub with_next : TaskLevels → TaskLevels
@@ -88,6 +97,11 @@ module _ (app : App) (pool : List Values) (levels : Levels) where
     pub are : AreLevels
     pub all : (u : ℕ) (d : TaskLevels) → u < length app.tasks → (slice_index_or levels.tasks u d).judged ≡ length (values_at pool u)
     pub inside : AreAllInside pool levels.insides
+
+-- These are levels of a pool that is for the application's components.
+pub record AreOwnLevels (app : App) (pool : List Values) (its : Levels) : Type 0 where
+  pub domains : pool_domains pool ≡ domains_of app
+  pub levels : AreLevels app pool its
 
 -- some value of these numbers is below the limit, or not Live
 pub record HasBelow (app : App) (u limit : ℕ) (vs : List PartValue) (x : Numbers) : Type 0 where

@@ -1,16 +1,17 @@
 -- Facts that structs keep: each has one proof at most.
-use Rattle.std.specs.{Prelude.{◌≡◌, ℕ, List}, Coded.{Unit-prop, le_prop}}
+use Rattle.std.specs.{Prelude.{◌≡◌, ℕ, List, Some, None, slice_index_or}, Coded.{Unit-prop, le_prop}}
 use Rattle.std.proofs.Props.{props}
 use Rattle.osek_standard.specs.declared.app.App.{App}
 use Rattle.abstract_state.specs.declared.value.{Domain.{Domain}, PartValue.{PartValue}}
-use Rattle.flow_model.specs.declared.{case.{Asked.{Asked}, Stay.{Stay}, Leaving.{Leaving}}, change.Change.{Change}, runner.Runner.{Runner}}
+use Rattle.flow_model.specs.declared.{case.{Asked.{Asked}, Stay.{Stay}, Leaving.{Leaving}, Decision.{Decision}}, change.Change.{Change}, runner.Runner.{Runner}}
 use Rattle.flow_model.specs.declared.case.Asked.TheVariants as asked
 use Rattle.flow_model.specs.declared.case.Stay.TheVariants as stay
+use Rattle.flow_model.specs.declared.case.Decision.TheVariants as decision
 use Rattle.flow_model.specs.declared.runner.Runner.TheVariants as runner
 use Rattle.flow_model.specs.{Runners.{IsRunnerOf}, Effects.{IsKnownStay}}
 use Rattle.numbered_sets.specs.{declared.numbered_entry.NumberedEntry.{NumberedEntry}, Pools.{Values}}
 use Rattle.point_exits.specs.declared.{arrivals.ArrivalsOver.{ArrivalsOver}, insides.Insides.{Insides}, levels.Levels.{Levels}, task_levels.{Level.{Level}, TaskLevels.{TaskLevels}}}
-use Rattle.point_exits.specs.{Changing.{AreInOrder}, Arrivals.{AreKnownArrivals}, Levels.{IsLiveAt, AreTaskLevels, AreInsides, AreLevels, AreAllLevels}, Narrowing.{AreNeeds}, Deciding.{IsWhole, IsDecidable, IsAlive, IsAsked, IsLevelOf}}
+use Rattle.point_exits.specs.{Changing.{AreInOrder}, Arrivals.{AreKnownArrivals}, Levels.{IsLiveAt, AreTaskLevels, AreInsides, AreLevels, AreAllLevels}, Narrowing.{AreNeeds}, Deciding.{IsWhole, IsDecidable, IsKnownDecision, IsDecided, IsAlive, IsAsked, IsLevelOf}}
 
 -- ---- entries
 
@@ -53,6 +54,14 @@ IsWhole-prop app pool entry = hlevel props
 pub IsDecidable-prop : (app : App) (pool : List Values) (levels : Levels) (leaving : Leaving) (after : NumberedEntry) → IsProp (IsDecidable app pool levels leaving after)
 IsDecidable-prop app pool levels leaving after = hlevel (props, IsKnownStay-prop, AreAllLevels-prop, IsWhole-prop)
 
+IsKnownDecision-prop : (app : App) (d : Decision) → IsProp (IsKnownDecision app d)
+IsKnownDecision-prop app decision.Keep = Unit-prop
+IsKnownDecision-prop app (decision.To None) = Unit-prop
+IsKnownDecision-prop app (decision.To (Some w)) = le_prop
+
+pub IsDecided-prop : (app : App) (pool : List Values) (leaving : Leaving) (d : Decision) (left : NumberedEntry) → IsProp (IsDecided app pool leaving d left)
+IsDecided-prop app pool leaving d left = hlevel (props, IsKnownStay-prop, IsKnownDecision-prop, IsWhole-prop)
+
 -- ---- who contends for the processor
 
 pub IsLevelOf-prop : (levels : Levels) (t : ℕ) (level : Level) → IsProp (IsLevelOf levels t level)
@@ -74,3 +83,6 @@ IsAsked-prop app pool entry asked.Free = Unit-prop
 
 pub AreInOrder-prop : (A : Type 0) (xs : List Change) → IsProp (A → AreInOrder xs)
 AreInOrder-prop A xs = hlevel props
+
+pub IsPlaced-prop : (xs : List Change) (k : ℕ) (x : Change) → IsProp ((d : Change) → slice_index_or xs k d ≡ x)
+IsPlaced-prop xs k x = hlevel props

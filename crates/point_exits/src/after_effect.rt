@@ -1,12 +1,12 @@
-//! What the scheduler decides with the values after an effect, and where the processor stands then.
+//! What the scheduler decides with the values after an effect.
 ghost use Rattle.std.specs.Prelude.{◌≡◌};
 ghost use Rattle.point_exits.specs.{Deciding.{IsDecidable}, OneProof.{IsDecidable-prop}};
 
 use crate::contest::Contest;
-use crate::group::{Ends, ExitGroup, at, at_blocks};
+use crate::decided::Decided;
+use crate::group::ExitGroup;
 use crate::levels::Levels;
-use abstract_state::Point;
-use flow_model::{Asked, Decision, Leaving, Runner, Stay};
+use flow_model::{Asked, Decision, Leaving};
 use numbered_sets::{NumberedEntry, Pool};
 use osek_standard::App;
 use osek_values::{Memory, Seq, TaskNo};
@@ -27,7 +27,7 @@ impl<'a> AfterEffect<'a> {
     ghost use Rattle.std.specs.Prelude.{◌≡◌, IfOk, OnOk};
     ghost use Rattle.flow_model.specs.declared.case.Asked.TheVariants as asked;
     ghost use Rattle.flow_exits.specs.Outcomes.{IsVacant};
-    ghost use Rattle.point_exits.specs.{Deciding.{AreEndsBy, AddsOne, IsAlive, IsAny, IsKnownDecision, IsWhole}, AfterEffect.{Adds, AreNeedsOf}};
+    ghost use Rattle.point_exits.specs.{Deciding.{IsAny}, AfterEffect.{Adds, AreNeedsOf}};
 
     /// Adds the exits that come of what the scheduler decides with these values.
     pub fn push_decided(self, alloc: Global, groups: &mut Vec<ExitGroup>) -> Result<(), Memory>
@@ -45,14 +45,14 @@ impl<'a> AfterEffect<'a> {
         requires { self.leaving.asked ≡ asked.No }
         ensures { OnOk result (Adds self.entry IsAny groups.old.items groups.new.items) }
     {
-        let ends = self.ends_by(alloc, Decision::Keep, &self.after)?;
-        let status = self.leaving.status;
-        groups.push(ExitGroup {
-            decision: Some(Decision::Keep),
-            status,
-            entry: self.after,
-            ends,
-        })?;
+        let decided = Decided {
+            app: self.app,
+            pool: self.pool,
+            leaving: self.leaving,
+            decision: Decision::Keep,
+            left: self.after,
+        };
+        decided.push(alloc, groups)?;
         Ok(())
     }
 
@@ -81,24 +81,9 @@ impl<'a> AfterEffect<'a> {
             leaving: self.leaving,
             after: live,
         };
-        running.push_running(alloc, task, groups)?;
-        Ok(())
-    }
-
-    // it is Live with each of its values
-    fn push_running(
-        &self,
-        alloc: Global,
-        task: TaskNo,
-        groups: &mut Vec<ExitGroup>,
-    ) -> Result<(), Memory>
-        requires running { self.now.leaving.asked ≡ asked.Maybe task }
-        requires alive { IsAlive self.now.app.now self.now.pool.now self.now.after task.0 }
-        ensures { OnOk result (Adds self.now IsAny groups.old.items groups.new.items) }
-    {
-        let needs = self.needs(alloc)?;
+        let needs = running.needs(alloc)?;
         let contest = Contest {
-            values: self,
+            values: &running,
             needs,
         };
         contest.push_keepers(alloc, task, groups)?;
@@ -119,49 +104,6 @@ impl<'a> AfterEffect<'a> {
         contest.push_nobody(alloc, groups)?;
         contest.push_winners(alloc, groups)?;
         Ok(())
-    }
-
-    /// Adds the exits by which this is decided, with these values.
-    pub fn push_group(
-        &self,
-        alloc: Global,
-        decision: Decision,
-        entry: NumberedEntry,
-        groups: &mut Vec<ExitGroup>,
-    ) -> Result<(), Memory>
-        requires known { IsKnownDecision self.now.app.now decision }
-        requires whole { IsWhole self.now.app.now self.now.pool.now entry }
-        ensures { OnOk result (AddsOne self.now.pool.now self.now.leaving decision entry groups.old.items groups.new.items) }
-    {
-        let ends = self.ends_by(alloc, decision, &entry)?;
-        groups.push(ExitGroup {
-            decision: Some(decision),
-            status: self.leaving.status,
-            entry,
-            ends,
-        })?;
-        Ok(())
-    }
-
-    // where the processor stands after this decision
-    fn ends_by(
-        &self,
-        alloc: Global,
-        decision: Decision,
-        entry: &NumberedEntry,
-    ) -> Result<Ends, Memory>
-        requires known { IsKnownDecision self.now.app.now decision }
-        requires whole { IsWhole self.now.app.now self.now.pool.now entry.now }
-        ensures { IfOk result (AreEndsBy self.now.pool.now entry.now self.now.leaving.stay decision) }
-    {
-        match decision {
-            Decision::Keep => match self.leaving.stay {
-                Stay::At(point) => at(alloc, point),
-                Stay::AtBlockOf(runner) => at_blocks(alloc, self.pool, runner, entry),
-            },
-            Decision::To(None) => at(alloc, Point::Idle),
-            Decision::To(Some(task)) => at_blocks(alloc, self.pool, Runner::Task(task), entry),
-        }
     }
 
     // for each task the least limit under which it is with some value of the entry

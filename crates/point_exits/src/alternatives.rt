@@ -15,12 +15,10 @@ use osek_values::{Memory, Seq};
 use std::alloc::Global;
 
 impl<'a> Numbering<'a> {
-    ghost use Rattle.std.specs.Prelude.{OnOk, Contains};
-    ghost use Rattle.flow_model.specs.declared.case.EffectCase.{EffectCase};
-    ghost use Rattle.numbered_sets.specs.Views.{plain_entry, AreNumbersOf};
-    ghost use Rattle.flow_effects.specs.Alternatives.{alternative_cases, AreApart};
-    ghost use Rattle.flow_exits.specs.Leaving.{effect_rule};
-    ghost use Rattle.point_exits.specs.{Alternatives.{HasOwnValues}, Applying.{KeepsDomains}, Groups.{AreKnownGroups}, Growing.{IsGrown}, Leaving.{AddsEffects}};
+    ghost use Rattle.std.specs.Prelude.{OnOk};
+    ghost use Rattle.numbered_sets.specs.Views.{plain_entry};
+    ghost use Rattle.flow_effects.specs.Alternatives.{alternative_cases};
+    ghost use Rattle.point_exits.specs.{Alternatives.{MayApplyEach}, Groups.{AreKnownGroups}, Growing.{IsGrown}, Leaving.{AddsEffects}};
 
     /// Adds the exits of cases that differ in one condition alone, whose effect is looked at once: an end for each that passes.
     pub fn push_alternatives(
@@ -30,10 +28,7 @@ impl<'a> Numbering<'a> {
         alternatives: &Alternatives,
         groups: &mut Vec<ExitGroup>,
     ) -> Result<(), Memory>
-        requires numbers { AreNumbersOf self.old.pool before.now }
-        requires own { HasOwnValues (plain_entry self.old.pool before.now) }
-        requires apart { AreApart self.old.app.now alternatives.now }
-        requires kept { (x : EffectCase) → Contains (alternative_cases alternatives.now) x → KeepsDomains (effect_rule x) (plain_entry self.old.pool before.now) }
+        requires cases { MayApplyEach self.old.app.now alternatives.now self.old.pool before.now }
         requires known { AreKnownGroups self.old.pool groups.old.items }
         ensures grown { IsGrown self.old self.new }
         ensures added { OnOk result (AddsEffects self.old.app.now (plain_entry self.old.pool before.now) (alternative_cases alternatives.now) self.old.pool groups.old.items self.new.pool groups.new.items) }

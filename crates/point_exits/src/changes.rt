@@ -1,12 +1,12 @@
 //! What changes make of the values of a numbered entry that pass conditions.
-ghost use Rattle.std.specs.Prelude.{◌≡◌, ◌<◌, ◌≤◌, true, List, length, IfOk, OnOk, IfSome, IfNone, [], ◌∷◌, ◌++◌};
+ghost use Rattle.std.specs.Prelude.{◌≡◌, ◌<◌, ◌≤◌, true, List, length, slice_index_or, IfOk, OnOk, IfSome, IfNone, [], ◌∷◌, ◌++◌};
 ghost use Rattle.std.specs.Bool.{OnTrue, OnFalse};
 ghost use Rattle.flow_model.specs.{declared.{test.Condition.{Condition}, change.Change.{Change}}, Rules.{Applies, HasNone}};
 ghost use Rattle.flow_model.specs.Tests.{value_after as value_after_of};
 ghost use Rattle.numbered_sets.specs.NumberedEntries.{number_domains, AreFilled, HasEmptySet};
 ghost use Rattle.numbered_sets.specs.{Pools.{Values, IsLonger, values_at, domain_at, IsNumberOf}, Views.{plain_entry, AreNumbersOf}};
 ghost use Rattle.point_exits.specs.Applying.{KeepsDomains, MayApply, bare_rule, IsPassedSet, IsPassedSoFar};
-ghost use Rattle.point_exits.specs.{Changing.{is_named as is_named_of, AreInOrder, IsAlone, StaysIn, making}, OneProof.{AreInOrder-prop}};
+ghost use Rattle.point_exits.specs.{Changing.{is_named as is_named_of, AreInOrder, IsAlone, StaysIn, StaysAt, making}, OneProof.{AreInOrder-prop, IsPlaced-prop}};
 ghost use Rattle.point_exits.specs.Sifting.{AreSifted, LeavesNone};
 ghost use Rattle.abstract_state.specs.{declared.value.{Domain.{Domain}, PartValue.{PartValue}}, Domains.{IsWithin}};
 
@@ -49,7 +49,11 @@ pub fn applied(
     ensures none { IfOk result (λ new. IfNone new (HasNone (bare_rule conditions.now changes.now) (plain_entry pool.old entry.now))) }
 {
     // most rules that take nothing want a value that isn't there: no entry is made for these
-    if !may_pass(conditions.as_slice(), pool, entry) {
+    let values = NumberedValues {
+        pool: &*pool,
+        entry,
+    };
+    if !values.may_pass(conditions.as_slice()) {
         return Ok(None);
     }
     let mut made = entry.copy(alloc)?;
@@ -61,6 +65,7 @@ pub fn applied(
         let placed = PlacedChange {
             changes,
             place,
+            change: changes.at(place),
             in_order,
         };
         placed.make(alloc, pool, &mut made)?;
@@ -80,13 +85,23 @@ fn are_in_order(changes: &[Change]) -> bool
     true
 }
 
-/// A change by its place in a list, of which it may be known that it is in the order of its components.
+/// The values of a pool that an entry has.
+#[derive(Clone, Copy)]
+pub struct NumberedValues<'a> {
+    pub pool: &'a Pool,
+    pub entry: &'a NumberedEntry,
+    ghost few: { length entry.now.sets ≤ length pool.now },
+}
+
+/// A change with its place in a list, of which it may be known that it is in the order of its components.
 #[derive(Clone, Copy)]
 struct PlacedChange<'a> {
     changes: &'a Seq<Change>,
     place: usize,
+    change: &'a Change,
     in_order: bool,
     ghost known: { place < length changes.now },
+    ghost there: { (d : Change) → slice_index_or changes.now place d ≡ change.now } by { IsPlaced-prop changes.now place change.now },
     ghost order: { in_order ≡ true → AreInOrder changes.now } by { AreInOrder-prop (in_order ≡ true) changes.now },
 }
 
@@ -106,11 +121,11 @@ impl<'a> PlacedChange<'a> {
         ensures passed { OnOk result ((conditions : List Condition) (before : List Values) (was : NumberedEntry) → AreAllPassed (up_to (bare_rule conditions self.now.changes.now) self.now.place) before was (length was.sets) pool.old entry.old.sets →
             AreAllPassed (up_to (bare_rule conditions self.now.changes.now) (self.now.place + 1)) before was (length was.sets) pool.new entry.new.sets) }
     {
-        let component = self.changes.at(self.place).component.index();
-        if component >= entry.sets.len() || self.was_named(component) {
+        let component = self.change.component.index();
+        if component >= entry.sets.len() || self.was_named() {
             return Ok(());
         }
-        let alone = self.alone(component);
+        let alone = self.alone();
         let numbers = entry.sets.set(alloc, component)?;
         let set = updated(alloc, self.changes, alone, pool, component, &numbers)?;
         entry.sets.put(component, &set)?;
@@ -118,25 +133,25 @@ impl<'a> PlacedChange<'a> {
     }
 
     // whether an earlier change names its component too
-    fn was_named(&self, component: usize) -> bool
-        requires { (x : Change) → slice_index_or self.now.changes.now self.now.place x ≡ x → x.component.0 ≡ component }
-        ensures { result ≡ is_named_of self.now.changes.now self.now.place component }
+    fn was_named(&self) -> bool
+        ensures { result ≡ is_named_of self.now.changes.now self.now.place self.now.change.now.component.0 }
     {
         if self.in_order {
             return false;
         }
+        let component = self.change.component.index();
         is_named(self.changes.as_slice(), self.place, component)
     }
 
     // its place, if no later change names its component too
-    fn alone(&self, component: usize) -> Option<usize>
-        requires named { (x : Change) → slice_index_or self.now.changes.now self.now.place x ≡ x → x.component.0 ≡ component }
-        requires first { is_named_of self.now.changes.now self.now.place component ≡ false }
-        ensures { IfSome result (IsAlone self.now.changes.now component) }
+    fn alone(&self) -> Option<usize>
+        requires { is_named_of self.now.changes.now self.now.place self.now.change.now.component.0 ≡ false }
+        ensures { IfSome result (IsAlone self.now.changes.now self.now.change.now.component.0) }
     {
         if self.in_order {
             return Some(self.place);
         }
+        let component = self.change.component.index();
         let count = self.changes.len();
         let later = &self.changes.as_slice()[self.place + 1..count];
         if is_named(later, later.len(), component) {
@@ -204,51 +219,54 @@ fn keep_passing(
     Ok(is_left)
 }
 
-/// Whether each value that a condition wants is there.
-pub fn may_pass(conditions: &[Condition], pool: &Pool, entry: &NumberedEntry) -> bool
-    requires { length entry.now.sets ≤ length pool.now }
-    ensures { OnFalse result (LeavesNone pool.now conditions.now entry.now) }
-{
-    for condition in conditions {
-        if !has_wanted(condition, pool, entry) {
-            return false;
+impl<'a> NumberedValues<'a> {
+    ghost use Rattle.std.specs.{Prelude.{◌≡◌, ◌<◌, length, ◌∷◌, []}, Bool.{OnFalse}};
+    ghost use Rattle.flow_model.specs.declared.test.Condition.{Condition};
+    ghost use Rattle.point_exits.specs.Sifting.{LeavesNone};
+
+    /// Whether each value that a condition wants is there.
+    pub fn may_pass(&self, conditions: &[Condition]) -> bool
+        ensures { OnFalse result (LeavesNone self.now.pool.now conditions.now self.now.entry.now) }
+    {
+        for condition in conditions {
+            if !self.has_wanted(condition) {
+                return false;
+            }
+        }
+        true
+    }
+
+    // whether the value is there that a condition wants, if it wants one alone, or another than one that it doesn't want
+    fn has_wanted(&self, condition: &Condition) -> bool
+        ensures { OnFalse result (LeavesNone self.now.pool.now (condition.now ∷ []) self.now.entry.now) }
+    {
+        let component = condition.component.index();
+        if component >= self.entry.sets.len() {
+            return true;
+        }
+        match &condition.test {
+            Test::Is(value) => self.pool.has_value(component, value, self.entry),
+            Test::IsNot(_) => self.may_pass_alone(&condition.test, component),
+            _ => true,
         }
     }
-    true
-}
 
-// whether the value is there that a condition wants, if it wants one alone, or another than one that it doesn't want
-fn has_wanted(condition: &Condition, pool: &Pool, entry: &NumberedEntry) -> bool
-    requires { length entry.now.sets ≤ length pool.now }
-    ensures { OnFalse result (LeavesNone pool.now (condition.now ∷ []) entry.now) }
-{
-    let component = condition.component.index();
-    if component >= entry.sets.len() {
-        return true;
+    /// Whether the value of a set that has one alone passes.
+    pub fn may_pass_alone(&self, test: &Test, component: usize) -> bool
+        requires { component < length self.now.entry.now.sets }
+        ensures { OnFalse result ((x : Condition) → x.component.0 ≡ component → x.test ≡ test.now → LeavesNone self.now.pool.now (x ∷ []) self.now.entry.now) }
+    {
+        let count = self.pool.len(component);
+        let first = self.entry.next(component, 0, count);
+        if first >= count {
+            return false;
+        }
+        let second = self.entry.next(component, first + 1, count);
+        if second < count {
+            return true;
+        }
+        test.passes(&self.pool.value(component, first))
     }
-    match &condition.test {
-        Test::Is(value) => pool.has_value(component, value, entry),
-        Test::IsNot(_) => may_pass_alone(&condition.test, component, pool, entry),
-        _ => true,
-    }
-}
-
-/// Whether the value of a set that has one alone passes.
-pub fn may_pass_alone(test: &Test, component: usize, pool: &Pool, entry: &NumberedEntry) -> bool
-    requires set { component < length entry.now.sets }
-    requires values { component < length pool.now }
-    ensures { OnFalse result ((x : Condition) → x.component.0 ≡ component → x.test ≡ test.now → LeavesNone pool.now (x ∷ []) entry.now) }
-{
-    let count = pool.len(component);
-    let first = entry.next(component, 0, count);
-    if first >= count {
-        return false;
-    }
-    let second = entry.next(component, first + 1, count);
-    if second < count {
-        return true;
-    }
-    test.passes(&pool.value(component, first))
 }
 
 /// The numbers of what changes make of the values of a component's set. `alone` is the place of the change that alone says
@@ -326,9 +344,7 @@ fn put_updated(
     number: usize,
     new: &mut NumberedSet,
 ) -> Result<(), Memory>
-    requires known { component < length pool.old }
-    requires given { number < length (values_at pool.old component) }
-    requires domain { (v : PartValue) → IsNumberOf (values_at pool.old component) v number → IsWithin (domain_at pool.old component) (value_after_of changes.now component v) }
+    requires { StaysAt pool.old component (value_after_of changes.now component) number }
     ensures pool { IsLonger pool.old pool.new }
     ensures passed { OnOk result ((before : List Values) (d : Domain) (done : List PartValue) (v : PartValue) → IsNumberOf (values_at pool.old component) v number →
         IsPassedSoFar (making changes.now) before component d done pool.old new.old → IsPassedSoFar (making changes.now) before component d (done ++ v ∷ []) pool.new new.new) }

@@ -5,6 +5,7 @@ ghost use Rattle.point_exits.specs.{AfterEffect.{AreNeedsOf, AreNeedsOf-prop, Is
 ghost use Rattle.point_exits.specs.{Narrowing.{AreMet}, OneProof.{IsLevelOf-prop}};
 
 use crate::after_effect::AfterEffect;
+use crate::decided::Decided;
 use crate::group::ExitGroup;
 use crate::task_levels::Level;
 use flow_exits::{Claim, is_running, may_tie};
@@ -49,8 +50,15 @@ impl<'a> Contest<'a> {
         let Some(entry) = self.left_by(alloc, Claim::Nobody)? else {
             return Ok(());
         };
-        let decision = idle_decision(self.values.leaving.asked);
-        self.values.push_group(alloc, decision, entry, groups)?;
+        let values = self.values;
+        let decided = Decided {
+            app: values.app,
+            pool: values.pool,
+            leaving: values.leaving,
+            decision: idle_decision(values.leaving.asked),
+            left: entry,
+        };
+        decided.push(alloc, groups)?;
         Ok(())
     }
 
@@ -129,8 +137,7 @@ impl<'a> Contest<'a> {
         task: TaskNo,
         groups: &mut Vec<ExitGroup>,
     ) -> Result<(), Memory>
-        requires running { self.now.values.now.leaving.asked ≡ asked.Maybe task }
-        requires known { task.0 < length self.now.values.now.app.now.tasks }
+        requires { self.now.values.now.leaving.asked ≡ asked.Maybe task }
         ensures { OnOk result (Adds self.now.values.now (IsIt decision.Keep) groups.old.items groups.new.items) }
     {
         for level in self.values.levels.of(task).levels.as_slice() {
@@ -169,7 +176,14 @@ impl<'a> Contender<'a> {
         let Some(entry) = self.left_by(alloc, claim)? else {
             return Ok(());
         };
-        values.push_group(alloc, Decision::To(Some(self.task)), entry, groups)?;
+        let decided = Decided {
+            app: values.app,
+            pool: values.pool,
+            leaving: values.leaving,
+            decision: Decision::To(Some(self.task)),
+            left: entry,
+        };
+        decided.push(alloc, groups)?;
         Ok(())
     }
 
@@ -185,9 +199,15 @@ impl<'a> Contender<'a> {
         let Some(entry) = self.left_by(alloc, claim)? else {
             return Ok(());
         };
-        self.contest
-            .values
-            .push_group(alloc, Decision::Keep, entry, groups)?;
+        let values = self.contest.values;
+        let decided = Decided {
+            app: values.app,
+            pool: values.pool,
+            leaving: values.leaving,
+            decision: Decision::Keep,
+            left: entry,
+        };
+        decided.push(alloc, groups)?;
         Ok(())
     }
 

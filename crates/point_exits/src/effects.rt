@@ -1,7 +1,7 @@
 //! What an effect makes of the values before it, and the exits that it has then.
 
 use crate::after_effect::AfterEffect;
-use crate::changes::{applied, may_pass_alone};
+use crate::changes::{NumberedValues, applied};
 use crate::group::ExitGroup;
 use crate::numbering::Numbering;
 use crate::settled::Settling;
@@ -15,12 +15,12 @@ use std::alloc::Global;
 
 impl<'a> Numbering<'a> {
     ghost use Rattle.std.specs.Prelude.{◌∷◌, [], IfOk, OnOk, IfSome, IfNone};
-    ghost use Rattle.flow_model.specs.{Effects.{IsKnownStay}, Rules.{HasNone}};
+    ghost use Rattle.flow_model.specs.Rules.{HasNone};
     ghost use Rattle.numbered_sets.specs.Views.{plain_entry};
     ghost use Rattle.flow_effects.specs.Outs.{AreOutIn};
     ghost use Rattle.flow_exits.specs.Leaving.{effect_rule};
     ghost use Rattle.point_exits.specs.{Applying.{MayApply}, Groups.{AreKnownGroups}, Growing.{IsGrown}};
-    ghost use Rattle.point_exits.specs.{Leaving.{IsAfter, AddsEffects, AddsInstructions}, PointNumbers.{AreNumbersAt}};
+    ghost use Rattle.point_exits.specs.{Leaving.{MayTakeEffect, IsAfter, AddsEffects, AddsInstructions}, PointNumbers.{AreNumbersAt}};
 
     /// Adds the exits of the instruction of a task's or a routine's point.
     pub fn push_instructions(
@@ -54,8 +54,7 @@ impl<'a> Numbering<'a> {
         effect: &EffectCase,
         groups: &mut Vec<ExitGroup>,
     ) -> Result<(), Memory>
-        requires effect { MayApply (effect_rule effect.now) self.old.pool before.now }
-        requires stays { IsKnownStay self.old.app.now effect.now.leaving.stay }
+        requires effect { MayTakeEffect self.old.app.now effect.now self.old.pool before.now }
         requires known { AreKnownGroups self.old.pool groups.old.items }
         ensures grown { IsGrown self.old self.new }
         ensures added { OnOk result (AddsEffects self.old.app.now (plain_entry self.old.pool before.now) (effect.now ∷ []) self.old.pool groups.old.items self.new.pool groups.new.items) }
@@ -127,10 +126,14 @@ impl<'a> Numbering<'a> {
         let count = self.app.counters.len() + self.app.isrs.len();
         // the sources come last
         let first = before.sets.len() - count;
+        let values = NumberedValues {
+            pool: &self.pool,
+            entry: before,
+        };
         let mut outs = Seq::of(Vec::with_capacity(alloc, count)?);
         for source in 0..count {
             let is_in = Test::IsNot(PartValue::OfSource(SourceVal::Out));
-            let may_be_in = may_pass_alone(&is_in, first + source, &self.pool, before);
+            let may_be_in = values.may_pass_alone(&is_in, first + source);
             outs.push(!may_be_in)?;
         }
         Ok(outs)

@@ -4,7 +4,7 @@ ghost use Rattle.point_exits.specs.Levels.{AreNoInsides};
 
 use crate::arrivals::Arrivals;
 use crate::insides::Insides;
-use crate::task_levels::TaskLevels;
+use crate::task_levels::{TaskLevels, TaskValues};
 use numbered_sets::Pool;
 use osek_standard::App;
 use osek_values::{Memory, Seq, TaskNo};
@@ -21,14 +21,12 @@ pub struct Levels {
 
 impl Levels {
     ghost use Rattle.std.specs.Prelude.{◌≡◌, ◌<◌, length, slice_index_or, OnOk};
-    ghost use Rattle.abstract_state.specs.Domains.{domains_of};
-    ghost use Rattle.numbered_sets.specs.Pools.{pool_domains, IsLonger};
-    ghost use Rattle.point_exits.specs.{declared.task_levels.TaskLevels.{TaskLevels}, Levels.{AreAllInside, AreLevels, AreAllLevels}};
+    ghost use Rattle.numbered_sets.specs.Pools.{IsLonger};
+    ghost use Rattle.point_exits.specs.{declared.task_levels.TaskLevels.{TaskLevels}, Levels.{AreAllInside, AreLevels, AreOwnLevels, AreAllLevels}};
 
     /// Brings in the values inside of the tasks that name an INTERNAL resource.
     pub fn bring_in(&mut self, app: &App, pool: &mut Pool) -> Result<(), Memory>
-        requires domains { pool_domains pool.old ≡ domains_of app.now }
-        requires levels { AreLevels app.now pool.old self.old }
+        requires { AreOwnLevels app.now pool.old self.old }
         ensures pool { IsLonger pool.old pool.new }
         ensures levels { AreLevels app.now pool.new self.new }
         ensures all { OnOk result (AreAllInside pool.new self.new.insides) }
@@ -42,14 +40,18 @@ impl Levels {
 
     /// Judges the values.
     pub fn judge(&mut self, alloc: Global, app: &App, pool: &Pool) -> Result<(), Memory>
-        requires domains { pool_domains pool.now ≡ domains_of app.now }
-        requires levels { AreLevels app.now pool.now self.old }
+        requires { AreOwnLevels app.now pool.now self.old }
         ensures levels { AreLevels app.now pool.now self.new }
         ensures all { OnOk result (AreAllInside pool.now self.old.insides → AreAllLevels app.now pool.now self.new) }
     {
         for task in 0..app.tasks.len() {
+            let values = TaskValues {
+                app,
+                task: TaskNo(task as u8),
+                pool,
+            };
             let levels = self.tasks.at_mut(task);
-            levels.renew(alloc, app, TaskNo(task as u8), pool)?;
+            levels.renew(alloc, &values)?;
         }
         Ok(())
     }

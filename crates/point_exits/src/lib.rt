@@ -7,6 +7,7 @@ mod arrivals;
 mod bare_rule;
 mod changes;
 mod contest;
+mod decided;
 mod effects;
 mod exits;
 mod group;

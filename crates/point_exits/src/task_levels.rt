@@ -1,5 +1,5 @@
 //! The values of one task by what the scheduler reads of them.
-ghost use Rattle.std.specs.Prelude.{◌≡◌};
+ghost use Rattle.std.specs.Prelude.{◌≡◌, ◌<◌, length};
 
 use abstract_state::{Domain, PartValue};
 use flow_exits::as_candidate;
@@ -24,13 +24,23 @@ pub struct TaskLevels {
     pub levels: Seq<Level>,
 }
 
+/// The values with which a task of an application was seen.
+#[derive(Clone, Copy)]
+pub struct TaskValues<'a> {
+    pub app: &'a App,
+    pub task: TaskNo,
+    pub pool: &'a Pool,
+    ghost known: { task.0 < length app.now.tasks },
+    ghost seen: { task.0 < length pool.now },
+}
+
 impl TaskLevels {
     ghost use Rattle.std.specs.Prelude.{ℕ, List, ◌≡◌, ◌<◌, ◌≤◌, ◌+◌, ◌^◌, length, slice_index_or, IfOk, OnOk, OnErr, IfSome, IsTrue, ◌-◌};
     ghost use Rattle.osek_standard.specs.declared.app.App.{App};
     ghost use Rattle.abstract_state.specs.{declared.value.PartValue.{PartValue}, Concrete.{val_of}};
     ghost use Rattle.numbered_sets.specs.{Numbers.{has_number}, Pools.{values_at, IsNumberOf, Values}, NumberedEntries.{numbers_at}};
     ghost use Rattle.point_exits.specs.declared.task_levels.Level.{Level};
-    ghost use Rattle.point_exits.specs.Levels.{IsLiveAt, AreTaskLevels, with_next, AreAllJudged, IsLeastLimit, IsNarrowed};
+    ghost use Rattle.point_exits.specs.Levels.{IsLiveAt, AreTaskLevels, AreLevelsOf, HasNext, with_next, AreAllJudged, IsLeastLimit, IsNarrowed};
     ghost use Rattle.flow_model.specs.Values.{is_live_value};
     ghost use Rattle.flow_exits.specs.Claims.{is_below};
 
@@ -47,59 +57,40 @@ impl TaskLevels {
     }
 
     /// Judges the values that came in since the last time.
-    pub fn renew(
-        &mut self,
-        alloc: Global,
-        app: &App,
-        task: TaskNo,
-        pool: &Pool,
-    ) -> Result<(), Memory>
-        requires known { task.0 < length app.now.tasks }
-        requires pool { task.0 < length pool.now }
-        requires levels { AreTaskLevels app.now task.0 (values_at pool.now task.0) self.old }
-        ensures levels { AreTaskLevels app.now task.0 (values_at pool.now task.0) self.new }
-        ensures all { OnOk result (self.new.judged ≡ length (values_at pool.now task.0)) }
+    pub fn renew(&mut self, alloc: Global, values: &TaskValues) -> Result<(), Memory>
+        requires { AreLevelsOf values.now self.old }
+        ensures levels { AreLevelsOf values.now self.new }
+        ensures all { OnOk result (self.new.judged ≡ length (values_at values.now.pool.now values.now.task.0)) }
     {
-        for number in self.judged..pool.len(task.index()) {
-            self.judge_next(alloc, app, task, pool)?;
+        for number in self.judged..values.pool.len(values.task.index()) {
+            self.judge_next(alloc, values)?;
             self.judged = number + 1;
         }
         Ok(())
     }
 
     // judges the next value, by one at another block where it can
-    fn judge_next(
-        &mut self,
-        alloc: Global,
-        app: &App,
-        task: TaskNo,
-        pool: &Pool,
-    ) -> Result<(), Memory>
-        requires known { task.0 < length app.now.tasks }
-        requires pool { task.0 < length pool.now }
-        requires next { self.old.judged < length (values_at pool.now task.0) }
-        requires levels { AreTaskLevels app.now task.0 (values_at pool.now task.0) self.old }
-        ensures levels { OnOk result (AreTaskLevels app.now task.0 (values_at pool.now task.0) (with_next self.new)) }
+    fn judge_next(&mut self, alloc: Global, values: &TaskValues) -> Result<(), Memory>
+        requires { HasNext values.now self.old }
+        ensures levels { OnOk result (AreLevelsOf values.now (with_next self.new)) }
         ensures judged { OnOk result (self.new.judged ≡ self.old.judged) }
-        ensures err { OnErr result (AreTaskLevels app.now task.0 (values_at pool.now task.0) self.new) }
+        ensures err { OnErr result (AreLevelsOf values.now self.new) }
     {
-        let component = task.index();
-        if let Some(place) = self.place_beside(pool, component) {
+        if let Some(place) = self.place_beside(values) {
             return self.put_next(place);
         }
-        let value = pool.value(component, self.judged);
-        self.judge(alloc, app, task, &value)
+        let value = values.pool.value(values.task.index(), self.judged);
+        self.judge(alloc, values, &value)
     }
 
     // The place of the level of the next value, by what it would be at the block before: there a task mostly held the same.
-    fn place_beside(&self, pool: &Pool, component: usize) -> Option<usize>
-        requires pool { component < length pool.now }
-        requires next { self.now.judged < length (values_at pool.now component) }
+    fn place_beside(&self, values: &TaskValues) -> Option<usize>
+        requires { HasNext values.now self.now }
         ensures known { IfSome result (λ place. place < length self.now.levels) }
-        ensures level { IfSome result (λ place. (app : App) (u : ℕ) (d : Level) (v : PartValue) → AreTaskLevels app u (values_at pool.now component) self.now →
-            IsNumberOf (values_at pool.now component) v self.now.judged → IsLiveAt app u (slice_index_or self.now.levels place d).priority v) }
+        ensures level { IfSome result (λ place. (d : Level) (v : PartValue) → IsNumberOf (values_at values.now.pool.now values.now.task.0) v self.now.judged →
+            IsLiveAt values.now.app.now values.now.task.0 (slice_index_or self.now.levels place d).priority v) }
     {
-        match pool.beside(component, self.judged) {
+        match values.pool.beside(values.task.index(), self.judged) {
             None => None,
             Some(beside) => self.place_with(beside),
         }
@@ -119,19 +110,13 @@ impl TaskLevels {
     }
 
     // judges the next value
-    fn judge(
-        &mut self,
-        alloc: Global,
-        app: &App,
-        task: TaskNo,
-        value: &PartValue,
-    ) -> Result<(), Memory>
-        requires { task.0 < length app.now.tasks }
-        ensures levels { OnOk result ((vs : List PartValue) → AreTaskLevels app.now task.0 vs self.old → IsNumberOf vs value.now self.old.judged → AreTaskLevels app.now task.0 vs (with_next self.new)) }
+    fn judge(&mut self, alloc: Global, values: &TaskValues, value: &PartValue) -> Result<(), Memory>
+        ensures levels { OnOk result ((vs : List PartValue) → AreTaskLevels values.now.app.now values.now.task.0 vs self.old → IsNumberOf vs value.now self.old.judged →
+            AreTaskLevels values.now.app.now values.now.task.0 vs (with_next self.new)) }
         ensures judged { OnOk result (self.new.judged ≡ self.old.judged) }
-        ensures err { OnErr result ((vs : List PartValue) → AreTaskLevels app.now task.0 vs self.old → AreTaskLevels app.now task.0 vs self.new) }
+        ensures err { OnErr result ((vs : List PartValue) → AreTaskLevels values.now.app.now values.now.task.0 vs self.old → AreTaskLevels values.now.app.now values.now.task.0 vs self.new) }
     {
-        match as_candidate(app, task, value) {
+        match as_candidate(values.app, values.task, value) {
             None => {
                 self.dead.put(self.judged)?;
                 Ok(())

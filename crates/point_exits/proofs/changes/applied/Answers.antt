@@ -44,6 +44,7 @@ loop-place-preserved c = (
 pub invariant_of-placed : goal.invariant_of-placed
 invariant_of-placed c = record {
   known = omega (arith, c.loop-place-test.true, c.len-place-end.ensures);
+  there = c.at.ensures.item;
   order = λ is. subst AreInOrder c.as_slice-3.ensures (OnTrue_at is c.are_in_order-in_order.ensures);
 }
 

@@ -2,7 +2,7 @@ use Rattle.std.proofs.Common.{◌≡◌, ◌<◌, ◌+◌, List, [], length, tak
 use Rattle.abstract_state.specs.{declared.value.{Domain.{Domain}, PartValue.{PartValue}}, Domains.{IsWithin}}
 use Rattle.flow_model.specs.Tests.{value_after}
 use Rattle.numbered_sets.specs.{Numbers.{numbers, has_number}, Pools.{values_at}, Views.{values_with}}
-use Rattle.numbered_sets.proofs.{MadeLaws.{one_value, value_there}, NumberingLaws.{same_domain}, PlainLaws.{member_of_plain, value_with_number}}
+use Rattle.numbered_sets.proofs.{MadeLaws.{one_value, value_there}, NumberingLaws.{as_long, same_domain}, PlainLaws.{member_of_plain, value_with_number}}
 use Rattle.point_exits.specs.{Applying.{IsPassedSoFar}, Changing.{making}}
 use Rattle.point_exits.proofs.NumbersPassing.{next_value, values_skip_to, passed_begun, passed_whole, number_on}
 use Rattle.point_exits.proofs.changes.moved.Goals as goal
@@ -20,17 +20,24 @@ loop-number-init c =
       c.next-number.ensures.has,
     )
 
-pub put_updated-requires-clause-domain : goal.put_updated-requires-clause-domain
-put_updated-requires-clause-domain c = λ v is.
+pub put_updated-requires : goal.put_updated-requires
+put_updated-requires c =
     let before = c.args.pool.now in
+    let pool = c.loop-number.pool in
     let place = c.args.component in
+    let longer = c.loop-number.invariant.0.longer in
     let known : c.loop-number.number < length (values_at before place) = omega (arith, c.loop-number-test.true, c.len-count.ensures) in
     let there = value_there (values_at before place) c.loop-number.number known in
-    let same : there.0 ≡ v = one_value (values_at c.loop-number.pool place) there.0 v c.loop-number.number (number_on before c.loop-number.pool place c.loop-number.number there.0 c.loop-number.invariant.0.longer there.1) is in
-    let member = member_of_plain (values_at before place) c.args.numbers.now v
-    ∙ value_with_number (values_at before place) (has_number c.args.numbers.now) c.loop-number.number v known (there.1.is v ∙ same) (c.loop-number.invariant.2 c.loop-number-test.true) in
-    subst (λ (d : Domain). IsWithin d (value_after c.args.changes.now place v)) (sym (same_domain before c.loop-number.pool place c.loop-number.invariant.0.longer))
-    (c.requires.within v member)
+    let here = number_on before pool place c.loop-number.number there.0 longer there.1 in
+    record {
+      known = omega (arith, c.requires.known, as_long before pool longer);
+      listed = here.known;
+      within = λ v is.
+          (let same : there.0 ≡ v = one_value (values_at pool place) there.0 v c.loop-number.number here is in
+          let member = member_of_plain (values_at before place) c.args.numbers.now v
+          ∙ value_with_number (values_at before place) (has_number c.args.numbers.now) c.loop-number.number v known (there.1.is v ∙ same) (c.loop-number.invariant.2 c.loop-number-test.true) in
+          subst (λ (d : Domain). IsWithin d (value_after c.args.changes.now place v)) (sym (same_domain before pool place longer)) (c.requires.within v member));
+    }
 
 pub loop-number-preserved : goal.loop-number-preserved
 loop-number-preserved c =

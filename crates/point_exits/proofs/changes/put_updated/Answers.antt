@@ -10,7 +10,7 @@ use Rattle.point_exits.proofs.changes.put_updated.Goals as goal
 pub number-requires-clause-within : goal.number-requires-clause-within
 number-requires-clause-within c =
     subst (IsWithin (domain_at c.args.pool.now c.args.component))
-    (sym (c.value_after-after.ensures ∙ ap (λ (xs : List Change). value_after xs c.args.component c.value-before.result) c.as_slice.ensures)) (c.requires.domain c.value-before.result c.value-before.ensures)
+    (sym (c.value_after-after.ensures ∙ ap (λ (xs : List Change). value_after xs c.args.component c.value-before.result) c.as_slice.ensures)) (c.requires.within c.value-before.result c.value-before.ensures)
 
 pub returns-in_err-put-clause-pool : goal.returns-in_err-put-clause-pool
 returns-in_err-put-clause-pool c = subst (IsLonger c.args.pool.now) (sym c.in_ok-made.ensures.pool) (longer_with c.args.pool.now c.args.component c.value_after-after.result c.requires.known)

@@ -1,8 +1,9 @@
-use Rattle.std.proofs.Common.{◌<◌, Bool, length, subst, arith}
+use Rattle.std.proofs.Common.{◌<◌, Bool, length, sym, subst, arith}
 use Rattle.std.specs.Bool.{OnTrue, OnFalse}
 use Rattle.numbered_sets.specs.NumberedEntries.{AreFilled, HasEmptySet}
+use Rattle.point_exits.specs.Deciding.{IsAsked}
 use Rattle.point_exits.proofs.{LeftLaws.{tasks_counted}, OwnLevels.{own_known}}
-use Rattle.point_exits.proofs.WholeLaws.{narrowed_live, whole_live, all_alive, unknown_task, never_runs, live_adds}
+use Rattle.point_exits.proofs.WholeLaws.{narrowed_live, whole_live, all_alive, unknown_task, never_runs, running_adds, live_adds}
 use Rattle.point_exits.proofs.after_effect.AfterEffect.push_over.Goals as goal
 
 pub returns-then-index-len : goal.returns-then-index-len
@@ -45,14 +46,17 @@ invariant_of-running c =
       };
     }
 
-pub push_running-requires-clause-alive : goal.push_running-requires-clause-alive
-push_running-requires-clause-alive c =
+pub invariant_of-contest : goal.invariant_of-contest
+invariant_of-contest c =
     let x = c.args.self in
     let t = c.args.task in
     let live = c.keep_live.new.entry in
     let known : t.0 < length x.app.now.tasks = omega arith in
     let narrowed = narrowed_live x.app.now x.pool.now x.levels.now t.0 known c.args.self.decidable.levels c.of.result.now c.of.ensures x.after live c.args.self.decidable.whole.numbers c.in_ok-keep_live.ensures in
-    all_alive x.app.now x.pool.now x.after live t.0 known narrowed
+    record {
+      needed = c.in_ok-needs.ensures;
+      asked = subst (IsAsked x.app.now x.pool.now live) (sym c.requires) (all_alive x.app.now x.pool.now x.after live t.0 known narrowed);
+    }
 
 pub returns : goal.returns
 returns c =
@@ -61,4 +65,6 @@ returns c =
     let live = c.keep_live.new.entry in
     let known : t.0 < length x.app.now.tasks = omega arith in
     let narrowed = narrowed_live x.app.now x.pool.now x.levels.now t.0 known c.args.self.decidable.levels c.of.result.now c.of.ensures x.after live c.args.self.decidable.whole.numbers c.in_ok-keep_live.ensures in
-    live_adds x.app.now x.pool.now x.leaving x.after t c.requires live known narrowed c.args.groups.now.items c.push_running.new.groups.items c.in_ok-push_running.ensures
+    let adds =
+    running_adds x.app.now x.pool.now x.leaving live t c.requires c.args.groups.now.items c.push_keepers.new.groups.items c.push_winners.new.groups.items c.in_ok-push_keepers.ensures c.in_ok-push_winners.ensures in
+    live_adds x.app.now x.pool.now x.leaving x.after t c.requires live known narrowed c.args.groups.now.items c.push_winners.new.groups.items adds

@@ -18,14 +18,14 @@ returns-in_default c =
     let never = subst (λ (o : Option NumberedEntry). IfNone o (NeverAt x.app.now (claim.Keeps t level.priority) x.pool.now x.after t.0 level)) c.in_default.is c.in_ok-entry.ensures.none in
     no_keeper x.app.now x.pool.now x.levels.now x.decidable.levels x.leaving t c.requires c.args.self.now.known level c.args.self.now.has_level x.after never c.args.groups.now.items
 
-pub push_group-requires-clause-whole : goal.push_group-requires-clause-whole
-push_group-requires-clause-whole c =
+pub invariant_of-decided : goal.invariant_of-decided
+invariant_of-decided c =
     let x = c.args.self.now.contest.now.values.now in
     let t = c.args.self.now.task in
     let level = c.args.self.now.level.now in
     let left : IsCut x.app.now x.pool.now (claim.Keeps t level.priority) t.0 level x.after c.in-Some.entry
     = subst (λ (o : Option NumberedEntry). IfSome o (IsCut x.app.now x.pool.now (claim.Keeps t level.priority) t.0 level x.after)) c.in-Some.is c.in_ok-entry.ensures.some in
-    left.whole
+    record { decided = record { stay = x.decidable.stay; known = tt; whole = left.whole } }
 
 pub returns : goal.returns
 returns c =
@@ -34,5 +34,5 @@ returns c =
     let level = c.args.self.now.level.now in
     let left : IsCut x.app.now x.pool.now (claim.Keeps t level.priority) t.0 level x.after c.in-Some.entry
     = subst (λ (o : Option NumberedEntry). IfSome o (IsCut x.app.now x.pool.now (claim.Keeps t level.priority) t.0 level x.after)) c.in-Some.is c.in_ok-entry.ensures.some in
-    adds_group x.app.now x.pool.now x.leaving x.after (IsAtLevel x.pool.now x.after t.0 level decision.Keep) decision.Keep c.args.groups.now.items x.decidable.stay tt c.in-Some.entry c.push_group.new.groups.items left.whole
-    (keeper_group x.app.now x.pool.now x.levels.now x.decidable.levels x.leaving t c.requires c.args.self.now.known level c.args.self.now.has_level x.after c.in-Some.entry left.claimed) c.in_ok-push_group.ensures
+    adds_group x.app.now x.pool.now x.leaving x.after (IsAtLevel x.pool.now x.after t.0 level decision.Keep) decision.Keep c.args.groups.now.items x.decidable.stay tt c.in-Some.entry c.push.new.groups.items left.whole
+    (keeper_group x.app.now x.pool.now x.levels.now x.decidable.levels x.leaving t c.requires c.args.self.now.known level c.args.self.now.has_level x.after c.in-Some.entry left.claimed) c.in_ok-push.ensures

@@ -23,15 +23,15 @@ returns-in_default c =
     let never = subst (λ (k : Claim). NeverAt x.app.now k x.pool.now x.after w.0 level) same none in
     no_winner x.app.now x.pool.now x.levels.now x.decidable.levels x.leaving w c.args.self.now.known c.requires level c.args.self.now.has_level x.after never c.args.groups.now.items
 
-pub push_group-requires-clause-whole : goal.push_group-requires-clause-whole
-push_group-requires-clause-whole c =
+pub invariant_of-decided : goal.invariant_of-decided
+invariant_of-decided c =
     let x = c.args.self.now.contest.now.values.now in
     let w = c.args.self.now.task in
     let level = c.args.self.now.level.now in
     let gets = claim.Gets w level.priority c.over.result c.may_tie.result in
     let left : IsCut x.app.now x.pool.now gets w.0 level x.after c.in-Some.entry
     = subst (λ (o : Option NumberedEntry). IfSome o (IsCut x.app.now x.pool.now gets w.0 level x.after)) c.in-Some.is c.in_ok-entry.ensures.some in
-    left.whole
+    record { decided = record { stay = x.decidable.stay; known = c.args.self.now.known; whole = left.whole } }
 
 pub returns : goal.returns
 returns c =
@@ -44,5 +44,5 @@ returns c =
     = subst (λ (o : Option NumberedEntry). IfSome o (IsCut x.app.now x.pool.now gets w.0 level x.after)) c.in-Some.is c.in_ok-entry.ensures.some in
     let same = ap₂ (λ (o : Option TaskNo) (b : Bool). claim.Gets w level.priority o b) c.over.ensures c.may_tie.ensures in
     let left = subst (λ (k : Claim). IsCut x.app.now x.pool.now k w.0 level x.after c.in-Some.entry) same its in
-    adds_group x.app.now x.pool.now x.leaving x.after (IsAtLevel x.pool.now x.after w.0 level d) d c.args.groups.now.items x.decidable.stay c.args.self.now.known c.in-Some.entry c.push_group.new.groups.items left.whole
-    (winner_group x.app.now x.pool.now x.levels.now x.decidable.levels x.leaving w c.args.self.now.known c.requires level c.args.self.now.has_level x.after c.in-Some.entry c.args.self.now.contest.now.asked left.claimed) c.in_ok-push_group.ensures
+    adds_group x.app.now x.pool.now x.leaving x.after (IsAtLevel x.pool.now x.after w.0 level d) d c.args.groups.now.items x.decidable.stay c.args.self.now.known c.in-Some.entry c.push.new.groups.items left.whole
+    (winner_group x.app.now x.pool.now x.levels.now x.decidable.levels x.leaving w c.args.self.now.known c.requires level c.args.self.now.has_level x.after c.in-Some.entry c.args.self.now.contest.now.asked left.claimed) c.in_ok-push.ensures

@@ -8,15 +8,18 @@ use Rattle.point_exits.specs.{Narrowing.{NeverUnder}, Deciding.{AddsOne, IsIt, I
 use Rattle.point_exits.proofs.{ExitLaws.{adds_group}, ClaimedGroups.{idle_known, left_whole, nobody_group, nobody_never}}
 use Rattle.point_exits.proofs.contest.Contest.push_nobody.Goals as goal
 
-pub push_group-requires-clause-known : goal.push_group-requires-clause-known
-push_group-requires-clause-known c = (let x = c.args.self.now.values.now in subst (IsKnownDecision x.app.now) (sym c.idle_decision-decision.ensures) (idle_known x.app.now x.leaving.asked c.requires))
-
-pub push_group-requires-clause-whole : goal.push_group-requires-clause-whole
-push_group-requires-clause-whole c =
+pub invariant_of-decided : goal.invariant_of-decided
+invariant_of-decided c =
     let x = c.args.self.now.values.now in
     let left = subst (λ (o : Option NumberedEntry). IfSome o (IsLeftBy x claim.Nobody (length x.app.now.tasks))) c.in-Some.is c.in_ok-entry.ensures.left in
     let filled = subst (λ (o : Option NumberedEntry). IfSome o AreFilled) c.in-Some.is c.in_ok-entry.ensures.filled in
-    left_whole x.app.now x.pool.now claim.Nobody x.after c.in-Some.entry left x.decidable.whole filled
+    record {
+      decided = record {
+        stay = x.decidable.stay;
+        known = subst (IsKnownDecision x.app.now) (sym c.idle_decision.ensures) (idle_known x.app.now x.leaving.asked c.requires);
+        whole = left_whole x.app.now x.pool.now claim.Nobody x.after c.in-Some.entry left x.decidable.whole filled;
+      };
+    }
 
 pub returns-in_default : goal.returns-in_default
 returns-in_default c =
@@ -31,7 +34,7 @@ returns c =
     let entry = c.in-Some.entry in
     let left = subst (λ (o : Option NumberedEntry). IfSome o (IsLeftBy x claim.Nobody (length x.app.now.tasks))) c.in-Some.is c.in_ok-entry.ensures.left in
     let filled = subst (λ (o : Option NumberedEntry). IfSome o AreFilled) c.in-Some.is c.in_ok-entry.ensures.filled in
-    let one = subst (λ (e : Decision). AddsOne x.pool.now x.leaving e entry c.args.groups.now.items c.push_group.new.groups.items) c.idle_decision-decision.ensures c.in_ok-push_group.ensures in
-    adds_group x.app.now x.pool.now x.leaving x.after (IsIt d) d c.args.groups.now.items x.decidable.stay (idle_known x.app.now x.leaving.asked c.requires) entry c.push_group.new.groups.items
+    let one = subst (λ (e : Decision). AddsOne x.pool.now x.leaving e entry c.args.groups.now.items c.push.new.groups.items) c.idle_decision.ensures c.in_ok-push.ensures in
+    adds_group x.app.now x.pool.now x.leaving x.after (IsIt d) d c.args.groups.now.items x.decidable.stay (idle_known x.app.now x.leaving.asked c.requires) entry c.push.new.groups.items
     (left_whole x.app.now x.pool.now claim.Nobody x.after entry left x.decidable.whole filled)
     (nobody_group x.app.now x.pool.now x.leaving c.requires x.after entry left) one

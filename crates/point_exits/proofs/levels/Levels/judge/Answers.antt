@@ -4,13 +4,16 @@ use Rattle.point_exits.specs.{declared.levels.Levels.{Levels}, Levels.{AreTaskLe
 use Rattle.point_exits.proofs.{EntryCounts.{pool_has_tasks}, LevelLaws.{levels_with, judged_with}}
 use Rattle.point_exits.proofs.levels.Levels.judge.Goals as goal
 
-pub renew-requires-clause-pool : goal.renew-requires-clause-pool
-renew-requires-clause-pool c =
+pub invariant_of-values : goal.invariant_of-values
+invariant_of-values c =
     let tasks = pool_has_tasks c.args.app.now c.args.pool.now c.requires.domains in
-    omega (arith, c.loop-task-test.true, c.len-task-end.ensures, tasks)
+    record {
+      known = omega (arith, c.loop-task-test.true, c.len-task-end.ensures);
+      seen = omega (arith, c.loop-task-test.true, c.len-task-end.ensures, tasks);
+    }
 
-pub renew-requires-clause-levels : goal.renew-requires-clause-levels
-renew-requires-clause-levels c =
+pub renew-requires : goal.renew-requires
+renew-requires c =
     let u = c.loop-task.task in
     let its = c.at_mut-levels.result.now in
     let known : u < length c.args.app.now.tasks = omega (arith, c.loop-task-test.true, c.len-task-end.ensures) in

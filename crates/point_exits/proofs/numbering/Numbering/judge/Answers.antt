@@ -5,8 +5,11 @@ use Rattle.point_exits.proofs.numbering.Numbering.judge.Goals as goal
 pub invariant_of-self : goal.invariant_of-self
 invariant_of-self c = record { domains = c.bring_in.ensures.pool.domains ∙ c.args.self.now.domains; known = c.bring_in.ensures.levels }
 
-pub judge-requires-clause-domains : goal.judge-requires-clause-domains
-judge-requires-clause-domains c = c.bring_in.ensures.pool.domains ∙ c.args.self.now.domains
+pub bring_in-requires : goal.bring_in-requires
+bring_in-requires c = record { domains = c.args.self.now.domains; levels = c.args.self.now.known }
+
+pub judge-requires : goal.judge-requires
+judge-requires c = record { domains = c.bring_in.ensures.pool.domains ∙ c.args.self.now.domains; levels = c.bring_in.ensures.levels }
 
 pub invariant_of-self-2 : goal.invariant_of-self-2
 invariant_of-self-2 c = record { domains = c.bring_in.ensures.pool.domains ∙ c.args.self.now.domains; known = c.judge.ensures.levels }

@@ -9,19 +9,22 @@ use Rattle.point_exits.proofs.{GrowingPools.{groups_known}, EntryCounts.{sets_co
 use Rattle.point_exits.proofs.SettledGroups.{decided_known, settled_decided, settled_groups_known}
 use Rattle.point_exits.proofs.numbering.Numbering.push_effect.Goals as goal
 
+pub after-requires : goal.after-requires
+after-requires c = c.requires.effect.applies
+
 pub returns-in_default-clause-added : goal.returns-in_default-clause-added
 returns-in_default-clause-added c =
     let app = c.args.self.now.app.now in
     let pool = c.args.self.now.pool in
     let entry = plain_entry pool c.args.before.now in
     let none : HasNone (effect_rule c.args.effect.now) entry = subst (λ (o : Option NumberedEntry). IfNone o (HasNone (effect_rule c.args.effect.now) entry)) c.in_default.is c.in_ok-after.ensures.none in
-    effect_skipped app entry (sets_counted app pool c.args.before.now (c.requires.effect.numbers.domains ∙ c.args.self.now.domains)) c.args.effect.now pool c.after.new.self.pool c.after.ensures.grown.pool c.args.groups.now.items c.args.groups.now.items c.requires.known
+    effect_skipped app entry (sets_counted app pool c.args.before.now (c.requires.effect.applies.numbers.domains ∙ c.args.self.now.domains)) c.args.effect.now pool c.after.new.self.pool c.after.ensures.grown.pool c.args.groups.now.items c.args.groups.now.items c.requires.known
     none
 
 pub invariant_of-values : goal.invariant_of-values
 invariant_of-values c =
     let is = subst (λ (o : Option NumberedEntry). IfSome o (IsAfter c.args.self.now.app.now c.args.effect.now c.args.before.now c.args.self.now.pool c.after.new.self.pool c.after.new.self.levels)) c.in-Some.is c.in_ok-after.ensures.some in
-    record { decidable = record { stay = c.requires.stays; levels = is.all; whole = is.whole } }
+    record { decidable = record { stay = c.requires.effect.stay; levels = is.all; whole = is.whole } }
 
 pub invariant_of-settling : goal.invariant_of-settling
 invariant_of-settling c =
@@ -53,6 +56,6 @@ returns-clause-added c =
     let size : length before ≡ c.len-from.result = omega (arith, c.len-from.ensures, c.args.groups.now.ok.0) in
     on_ok_weaker c.settle.result
     (λ s. (let t : AreSettledFrom app after effect.leaving.stay (length before) now settled = subst (λ n. AreSettledFrom app after effect.leaving.stay n now settled) (sym size) s in
-    effect_added app entry (sets_counted app pool c.args.before.now (c.requires.effect.numbers.domains ∙ c.args.self.now.domains)) effect pool after c.after.ensures.grown.pool before settled c.requires.known made is.applies
+    effect_added app entry (sets_counted app pool c.args.before.now (c.requires.effect.applies.numbers.domains ∙ c.args.self.now.domains)) effect pool after c.after.ensures.grown.pool before settled c.requires.known made is.applies
     (settled_groups_known app after effect.leaving made before now settled h t known)
     (settled_decided app after effect.leaving made before now settled h t known))) c.settle.ensures

@@ -12,13 +12,6 @@ use Rattle.point_exits.specs.{Applying.{KeepsDomains}, Leaving.{AddsEffects}, Al
 use Rattle.point_exits.proofs.{AddingEffects.{more_effects, effects_on}, EffectDomains.{effect_keeps_domains}, AlternativeCases.{case_listed, alternative_listed, own_values}, GrownNumberings.{grown_onward}}
 use Rattle.point_exits.proofs.numbering.Numbering.push_instructions.Goals as goal
 
-pub push_effect-requires-clause-stays : goal.push_effect-requires-clause-stays
-push_effect-requires-clause-stays c =
-    let x = c.effect-item.result in
-    let listed = subst (λ (xs : List EffectCase). Contains xs x) c.as_slice-effect-items.ensures (c.loop-effect.effect-index, c.loop-effect-test.true, sym c.effect-item.is) in
-    subst (λ (app : App). IsKnownStay app x.leaving.stay) (sym c.loop-effect.invariant.grown.app)
-    (c.in_ok-effects.ensures.stays x (case_listed c.in_ok-effects.effects.cases c.in_ok-effects.effects.alternatives x listed))
-
 pub push_effect-requires-clause-effect : goal.push_effect-requires-clause-effect
 push_effect-requires-clause-effect c =
     let pool = c.args.self.now.pool in
@@ -26,11 +19,14 @@ push_effect-requires-clause-effect c =
     let x = c.effect-item.result in
     let alike : domains (plain_entry pool entry) ≡ domains_of c.args.self.now.app.now = same_domains pool 0 entry.sets ∙ (c.requires.at.numbers.domains ∙ c.args.self.now.domains) in
     let listed = subst (λ (xs : List EffectCase). Contains xs x) c.as_slice-effect-items.ensures (c.loop-effect.effect-index, c.loop-effect-test.true, sym c.effect-item.is) in
+    let one = case_listed c.in_ok-effects.effects.cases c.in_ok-effects.effects.alternatives x listed in
     record {
-      numbers = still_known pool c.loop-effect.self.pool entry c.loop-effect.invariant.added.longer c.requires.at.numbers;
-      kept = subst (KeepsDomains (effect_rule x)) (sym (same_view pool c.loop-effect.self.pool entry c.loop-effect.invariant.added.longer c.requires.at.numbers))
-          (effect_keeps_domains c.args.self.now.app.now c.args.point (plain_entry pool entry) (all_cases c.in_ok-effects.effects) x alike
-          (case_listed c.in_ok-effects.effects.cases c.in_ok-effects.effects.alternatives x listed) (c.in_ok-effects.ensures.exact (plain_entry pool entry) alike c.requires.at.allowed));
+      applies = record {
+        numbers = still_known pool c.loop-effect.self.pool entry c.loop-effect.invariant.added.longer c.requires.at.numbers;
+        kept = subst (KeepsDomains (effect_rule x)) (sym (same_view pool c.loop-effect.self.pool entry c.loop-effect.invariant.added.longer c.requires.at.numbers))
+            (effect_keeps_domains c.args.self.now.app.now c.args.point (plain_entry pool entry) (all_cases c.in_ok-effects.effects) x alike one (c.in_ok-effects.ensures.exact (plain_entry pool entry) alike c.requires.at.allowed));
+      };
+      stay = subst (λ (app : App). IsKnownStay app x.leaving.stay) (sym c.loop-effect.invariant.grown.app) (c.in_ok-effects.ensures.stays x one);
     }
 
 pub loop-effect-preserved : goal.loop-effect-preserved
@@ -49,33 +45,27 @@ loop-effect-preserved c =
       grown = grown_onward c.args.self.now c.loop-effect.self c.push_effect.new.self inv.grown c.push_effect.ensures.grown;
     }
 
-pub push_alternatives-requires-clause-numbers : goal.push_alternatives-requires-clause-numbers
-push_alternatives-requires-clause-numbers c = still_known c.args.self.now.pool c.loop-effect.self.pool c.args.before.now c.loop-effect.invariant.added.longer c.requires.at.numbers
-
-pub push_alternatives-requires-clause-own : goal.push_alternatives-requires-clause-own
-push_alternatives-requires-clause-own c =
+pub push_alternatives-requires-clause-cases : goal.push_alternatives-requires-clause-cases
+push_alternatives-requires-clause-cases c =
     let app = c.args.self.now.app.now in
     let pool = c.args.self.now.pool in
+    let mid = c.loop-effect.self.pool in
     let entry = c.args.before.now in
-    let alike : domains (plain_entry pool entry) ≡ domains_of app = same_domains pool 0 entry.sets ∙ (c.requires.at.numbers.domains ∙ c.args.self.now.domains) in
-    subst HasOwnValues (sym (same_view pool c.loop-effect.self.pool entry c.loop-effect.invariant.added.longer c.requires.at.numbers))
-    (own_values app c.args.point (plain_entry pool entry) alike c.requires.at.allowed)
-
-pub push_alternatives-requires-clause-apart : goal.push_alternatives-requires-clause-apart
-push_alternatives-requires-clause-apart c =
-    subst (λ (app : App). AreApart app c.in-Some.alternatives) (sym c.loop-effect.invariant.grown.app)
-    (subst (λ (o : Option Alternatives). IfSome o (AreApart c.args.self.now.app.now)) c.in-Some.is c.in_ok-effects.ensures.apart)
-
-pub push_alternatives-requires-clause-kept : goal.push_alternatives-requires-clause-kept
-push_alternatives-requires-clause-kept c = λ x m.
-    let app = c.args.self.now.app.now in
-    let pool = c.args.self.now.pool in
-    let entry = c.args.before.now in
+    let longer = c.loop-effect.invariant.added.longer in
+    let numbers = c.requires.at.numbers in
     let effects = c.in_ok-effects.effects in
-    let alike : domains (plain_entry pool entry) ≡ domains_of app = same_domains pool 0 entry.sets ∙ (c.requires.at.numbers.domains ∙ c.args.self.now.domains) in
-    let listed = alternative_listed effects.cases effects.alternatives c.in-Some.alternatives x c.in-Some.is m in
-    subst (KeepsDomains (effect_rule x)) (sym (same_view pool c.loop-effect.self.pool entry c.loop-effect.invariant.added.longer c.requires.at.numbers))
-    (effect_keeps_domains app c.args.point (plain_entry pool entry) (all_cases effects) x alike listed (c.in_ok-effects.ensures.exact (plain_entry pool entry) alike c.requires.at.allowed))
+    let alike : domains (plain_entry pool entry) ≡ domains_of app = same_domains pool 0 entry.sets ∙ (numbers.domains ∙ c.args.self.now.domains) in
+    let same = sym (same_view pool mid entry longer numbers) in
+    record {
+      numbers = still_known pool mid entry longer numbers;
+      own = subst HasOwnValues same (own_values app c.args.point (plain_entry pool entry) alike c.requires.at.allowed);
+      apart = subst (λ (own : App). AreApart own c.in-Some.alternatives) (sym c.loop-effect.invariant.grown.app)
+          (subst (λ (o : Option Alternatives). IfSome o (AreApart app)) c.in-Some.is c.in_ok-effects.ensures.apart);
+      kept = λ x m.
+          (let listed = alternative_listed effects.cases effects.alternatives c.in-Some.alternatives x c.in-Some.is m in
+          subst (KeepsDomains (effect_rule x)) same
+          (effect_keeps_domains app c.args.point (plain_entry pool entry) (all_cases effects) x alike listed (c.in_ok-effects.ensures.exact (plain_entry pool entry) alike c.requires.at.allowed)));
+    }
 
 pub push_alternatives-requires-clause-known : goal.push_alternatives-requires-clause-known
 push_alternatives-requires-clause-known c = c.loop-effect.invariant.added.known

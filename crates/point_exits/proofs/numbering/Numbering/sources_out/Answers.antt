@@ -16,19 +16,18 @@ overflow_sub-first c =
     let app = c.args.self.now.app.now in
     omega (arith, c.len.ensures, c.len-2.ensures, c.len-3.ensures, numbers_counted app c.args.before.now (c.requires.numbers.domains ∙ c.args.self.now.domains), sources_last app)
 
-pub may_pass_alone-may_be_in-requires-clause-set : goal.may_pass_alone-may_be_in-requires-clause-set
-may_pass_alone-may_be_in-requires-clause-set c =
+pub invariant_of-values : goal.invariant_of-values
+invariant_of-values c =
+    let app = c.args.self.now.app.now in
+    let pool = pool_counted app c.args.self.now.pool c.args.self.now.domains in
+    let sets = numbers_counted app c.args.before.now (c.requires.numbers.domains ∙ c.args.self.now.domains) in
+    record { few = omega (arith, pool, sets) }
+
+pub may_pass_alone-may_be_in-requires : goal.may_pass_alone-may_be_in-requires
+may_pass_alone-may_be_in-requires c =
     let app = c.args.self.now.app.now in
     let sets = numbers_counted app c.args.before.now (c.requires.numbers.domains ∙ c.args.self.now.domains) in
     omega (arith, c.len.ensures, c.len-2.ensures, c.len-3.ensures, c.loop-source-test.true, sets, sources_last app)
-
-pub may_pass_alone-may_be_in-requires-clause-values : goal.may_pass_alone-may_be_in-requires-clause-values
-may_pass_alone-may_be_in-requires-clause-values c =
-    let app = c.args.self.now.app.now in
-    let entry = c.args.before.now in
-    let pool = pool_counted app c.args.self.now.pool c.args.self.now.domains in
-    let sets = numbers_counted app entry (c.requires.numbers.domains ∙ c.args.self.now.domains) in
-    omega (arith, c.len.ensures, c.len-2.ensures, c.len-3.ensures, c.loop-source-test.true, pool, sets, sources_last app)
 
 pub loop-source-init : goal.loop-source-init
 loop-source-init c =

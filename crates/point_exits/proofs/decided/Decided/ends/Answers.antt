@@ -7,19 +7,19 @@ use Rattle.flow_model.specs.declared.case.Decision.TheVariants as decision
 use Rattle.flow_model.specs.{Effects.{IsKnownStay}, Runners.{component_of}}
 use Rattle.point_exits.specs.Deciding.{IsKnownDecision}
 use Rattle.point_exits.proofs.ExitLaws.{runner_counted}
-use Rattle.point_exits.proofs.after_effect.AfterEffect.ends_by.Goals as goal
+use Rattle.point_exits.proofs.decided.Decided.ends.Goals as goal
 
 pub at_blocks-requires-clause-known : goal.at_blocks-requires-clause-known
 at_blocks-requires-clause-known c =
     let app = c.args.self.now.app.now in
     let r = c.in-AtBlockOf.runner in
-    let counted : component_of r < component_count app = runner_counted app r (subst (IsKnownStay app) c.in-AtBlockOf.is c.args.self.now.decidable.stay) in
-    omega (arith, counted, c.requires.whole.size)
+    let counted : component_of r < component_count app = runner_counted app r (subst (IsKnownStay app) c.in-AtBlockOf.is c.args.self.now.decided.stay) in
+    omega (arith, counted, c.args.self.now.decided.whole.size)
 
 pub at_blocks-requires-in-To-Some-clause-known : goal.at_blocks-requires-in-To-Some-clause-known
 at_blocks-requires-in-To-Some-clause-known c =
     let app = c.args.self.now.app.now in
     let t = c.in-To-Some.task in
     let some : c.in-To-Some.field-0 ≡ Some t = rw c.in-To-Some.is at c.in-To-Some.field-0-is in
-    let known : t.0 < length app.tasks = subst (IsKnownDecision app) (c.in-To-Some.is ∙ ap (λ (o : Option TaskNo). decision.To o) some) c.requires.known in
-    omega (arith, known, task_counted app t.0 known, c.requires.whole.size)
+    let known : t.0 < length app.tasks = subst (IsKnownDecision app) (c.in-To-Some.is ∙ ap (λ (o : Option TaskNo). decision.To o) some) c.args.self.now.decided.known in
+    omega (arith, known, task_counted app t.0 known, c.args.self.now.decided.whole.size)
