@@ -1,8 +1,8 @@
 -- What becomes of the levels of a task as its values are judged, one after the other.
-use Rattle.std.proofs.Common.{Result, Ok, Err, OnErr, ◌≡◌, ◌⊎◌, ℕ, ◌+◌, ◌^◌, ◌<◌, Bool, true, false, ◌||◌, List, [], ◌∷◌, ◌++◌, length, get_or, set, refl, sym, ap, subst, ◌∙◌, inl, inr, arith, IsTrue, get_or-set_same, get_or-set_other}
+use Rattle.std.proofs.Common.{Result, Ok, Err, OnErr, ◌≡◌, ◌⊎◌, ℕ, ◌+◌, ◌^◌, ◌<◌, Bool, true, false, ◌||◌, List, [], ◌∷◌, ◌++◌, length, get_or, set, refl, sym, ap, subst, ◌∙◌, inl, inr, arith, IsTrue}
 use Rattle.std.specs.{Prelude.{Contains, Some, None, IfSome}, declared.option.Option.{Option}}
-use Rattle.std.proofs.{Math.Bool.{or-true}, lemmas.{Bool.{cases_eq, or_cases, eq-eqb, eqb-true}, List.{length-set, get_or_default}}}
-use Rattle.std.proofs.lemmas.List.Elements.{All-set, All-contains, Contains-get_or, Contains-append_left, Contains-push_cases}
+use Rattle.std.proofs.{Math.Bool.{or-true}, lemmas.{Bool.{cases_eq, or_cases, eq-eqb, eqb-true}}}
+use Rattle.std.proofs.lemmas.List.Elements.{Contains-get_or, Contains-append_left, Contains-push_cases}
 use Rattle.bit_words.proofs.BitCounts.{has_either, has_one}
 use Rattle.osek_values.specs.{Bits.{has_bit}, declared.numbers.BlockNo.{BlockNo}}
 use Rattle.osek_standard.specs.declared.app.App.{App}
@@ -11,24 +11,24 @@ use Rattle.flow_model.specs.Values.{is_live_value, value_priority, restacked_par
 use Rattle.numbered_sets.specs.{Numbers.{Numbers, numbers, has_number, with_number}, Pools.{IsNumberOf, IsBeside}}
 use Rattle.numbered_sets.proofs.KnownNumbers.{no_bit_of_none}
 use Rattle.flow_exits.specs.{declared.priority.Candidate.{Candidate}, Candidates.{candidate_of}}
-use Rattle.point_exits.specs.{declared.task_levels.{Level.{Level}, TaskLevels.{TaskLevels}}, Levels.{IsLiveAt, AreOf, IsDead, IsLevel, AreTaskLevels, with_next}}
-use Rattle.point_exits.proofs.FoundLevels.{HasLevel, found_place, told_place}
+use Rattle.point_exits.specs.{declared.task_levels.{Level.{Level}, TaskLevels.{TaskLevels}}, Levels.{IsLiveAt, AreOf, AreFrom, IsDead, IsLevel, AreTaskLevels, with_next}}
+use Rattle.point_exits.proofs.FoundLevels.{found_place, told_place, each_replaced, at_replaced, level_stays}
 
 -- ---- a set with a number more
 
-with_cases : (x : Numbers) (n m : ℕ) → IsTrue (has_number (with_number x n) m) → IsTrue (has_number x m) ⊎ (m ≡ n)
+pub with_cases : (x : Numbers) (n m : ℕ) → IsTrue (has_number (with_number x n) m) → IsTrue (has_number x m) ⊎ (m ≡ n)
 with_cases x n m has = elim (or_cases (has_number x m) (has_bit (2 ^ n) m) (sym (has_either x.bits (2 ^ n) m) ∙ has)) [
   | inl old ↦ inl old
   | inr new ↦ inr (eqb-true m n (sym (has_one n m) ∙ new))
 ]
 
-with_old : (x : Numbers) (n m : ℕ) → IsTrue (has_number x m) → IsTrue (has_number (with_number x n) m)
+pub with_old : (x : Numbers) (n m : ℕ) → IsTrue (has_number x m) → IsTrue (has_number (with_number x n) m)
 with_old x n m has = has_either x.bits (2 ^ n) m ∙ ap (λ (b : Bool). b || has_bit (2 ^ n) m) has
 
-with_new : (x : Numbers) (n m : ℕ) → m ≡ n → IsTrue (has_number (with_number x n) m)
+pub with_new : (x : Numbers) (n m : ℕ) → m ≡ n → IsTrue (has_number (with_number x n) m)
 with_new x n m same = has_either x.bits (2 ^ n) m ∙ ap (λ (b : Bool). has_number x m || b) (has_one n m ∙ eq-eqb m n same) ∙ or-true (has_number x m)
 
-none_of : (x : Numbers) (d : Domain) (n : ℕ) → x ≡ numbers d 0 → IsTrue (has_number x n) → ⊥
+pub none_of : (x : Numbers) (d : Domain) (n : ℕ) → x ≡ numbers d 0 → IsTrue (has_number x n) → ⊥
 none_of x d n none has = no_bit_of_none n (sym (ap (λ (y : Numbers). has_number y n) none) ∙ has)
 
 -- ---- what was read of a value
@@ -74,13 +74,18 @@ placed_beside app u vs x n m (Some k) h beside known has = λ d v is.
 
 module _ (app : App) (u : ℕ) (vs : List PartValue) where
   -- a level without a number
-  pub level_added : (x : TaskLevels) (levels : List Level) (l : Level) (d : Domain) → AreTaskLevels app u vs x → levels ≡ x.levels ++ l ∷ [] → l.numbers ≡ numbers d 0 → AreTaskLevels app u vs (record x { levels = levels })
-  level_added x levels l d h more none = record {
+  pub level_added : (x : TaskLevels) (levels : List Level) (l : Level) (d : Domain) → AreTaskLevels app u vs x → levels ≡ x.levels ++ l ∷ [] → l.numbers ≡ numbers d 0
+      → AreFrom app u vs x.judged l.priority l.from → AreTaskLevels app u vs (record x { levels = levels })
+  level_added x levels l d h more none its = record {
     few = h.few;
     dead = h.dead;
     levels = λ level there. elim (Contains-push_cases x.levels l level (subst (λ (ls : List Level). Contains ls level) more there)) [
       | inl old ↦ h.levels level old
       | inr new ↦ λ n v has. absurd (none_of level.numbers d n (ap (λ (y : Level). y.numbers) (sym new) ∙ none) has)
+    ];
+    from = λ level there. elim (Contains-push_cases x.levels l level (subst (λ (ls : List Level). Contains ls level) more there)) [
+      | inl old ↦ h.from level old
+      | inr new ↦ subst (λ (y : Level). AreFrom app u vs x.judged y.priority y.from) new its
     ];
     whole = λ n lt. told_place x.dead levels n (elim (found_place x.dead x.levels n (h.whole n lt)) [
       | inl dead ↦ inl dead
@@ -101,6 +106,16 @@ module _ (app : App) (u : ℕ) (vs : List PartValue) where
     | inr new ↦ (omega (arith, new), subst P (sym (ap (λ (m : ℕ). get_or vs m d) new ∙ is.is d)) passes)
   ]
 
+  -- of a dead value nothing comes to those from a priority on
+  from_dead : (k p : ℕ) (x : Numbers) (v : PartValue) → AreFrom app u vs k p x → IsNumberOf vs v k → IsDead v → AreFrom app u vs (k + 1) p x
+  from_dead k p x v h is dead = record {
+    each = h.each;
+    whole = λ n d lt live. elim (cases_eq n k) [
+      | inl new ↦ absurd (let alive = live.live in let that = ap (λ (m : ℕ). is_live_value (val_of (get_or vs m d))) new ∙ ap (λ (w : PartValue). is_live_value (val_of w)) (is.is d) in cc)
+      | inr other ↦ h.whole n d (omega (arith, lt, other)) live
+    ];
+  }
+
   module _ (x : TaskLevels) (v : PartValue) (h : AreTaskLevels app u vs x) (is : IsNumberOf vs v x.judged) where
     -- the next value is dead
     pub dead_judged : (dead : Numbers) → dead ≡ with_number x.dead x.judged → IsDead v → AreTaskLevels app u vs (with_next (record x { dead = dead }))
@@ -108,6 +123,7 @@ module _ (app : App) (u : ℕ) (vs : List PartValue) where
       few = omega (arith, is.known);
       dead = one_more_of IsDead x.judged x.dead v h.dead is its;
       levels = λ level there. still_of (IsLiveAt app u level.priority) x.judged level.numbers (h.levels level there);
+      from = λ level there. from_dead x.judged level.priority level.from v (h.from level there) is its;
       whole = λ n lt. told_place (with_number x.dead x.judged) x.levels n (elim (cases_eq n x.judged) [
         | inl new ↦ inl (with_new x.dead x.judged n new)
         | inr other ↦ elim (found_place x.dead x.levels n (h.whole n (omega (arith, lt, other)))) [
@@ -126,44 +142,24 @@ module _ (app : App) (u : ℕ) (vs : List PartValue) where
       unfolding after
       after_is = refl
 
-      listed : Contains (set x.levels k after) after
-      listed = (k, (let same = length-set x.levels k after in omega (arith, known, same)), get_or-set_same x.levels k after after known)
+      has_after : (n : ℕ) → IsTrue (has_number (with_number l.numbers x.judged) n) → IsTrue (has_number after.numbers n)
+      has_after n has = ap (λ (y : Level). has_number y.numbers n) after_is ∙ has
 
-      at_its : (n : ℕ) → IsTrue (has_number (with_number l.numbers x.judged) n) → HasLevel (set x.levels k after) n
-      at_its n has = record { level = after; listed = listed; has = ap (λ (y : Level). has_number y.numbers n) after_is ∙ has }
-
-      stays : (n : ℕ) → HasLevel x.levels n → HasLevel (set x.levels k after) n
-      stays n old = elim (cases_eq old.listed.0 k) [
-        | inl same ↦ at_its n (with_old l.numbers x.judged n (
-            ap (λ (y : Level). has_number y.numbers n) (sym at ∙ its_place same ∙ old.listed.2) ∙ old.has))
-        | inr differ ↦ record {
-          level = old.level;
-          listed = (
-            old.listed.0,
-            (let long = length-set x.levels k after in omega (arith, long, old.listed.1)),
-            get_or-set_other x.levels k old.listed.0 after old.level differ ∙ old.listed.2,
-          );
-          has = old.has;
-        }
-      ]
-        where
-          its_place : old.listed.0 ≡ k → get_or x.levels k l ≡ get_or x.levels old.listed.0 old.level
-          its_place same = ap (λ (j : ℕ). get_or x.levels j l) (sym same) ∙ get_or_default x.levels old.listed.0 l old.level old.listed.1
-
-      pub level_judged : IsLiveAt app u l.priority v → AreTaskLevels app u vs (with_next (record x { levels = set x.levels k (record l { numbers = with_number l.numbers x.judged }) }))
-      level_judged live = subst (λ (y : Level). AreTaskLevels app u vs (with_next (record x { levels = set x.levels k y }))) after_is (record {
+      pub level_judged : IsLiveAt app u l.priority v → ((level : Level) → Contains x.levels level → AreFrom app u vs (x.judged + 1) level.priority level.from) → AreTaskLevels app u vs (with_next (record x { levels = set x.levels k (record l { numbers = with_number l.numbers x.judged }) }))
+      level_judged live next = subst (λ (y : Level). AreTaskLevels app u vs (with_next (record x { levels = set x.levels k y }))) after_is (record {
         few = omega (arith, is.known);
         dead = still_of IsDead x.judged x.dead h.dead;
-        levels = λ level there. All-contains (IsLevel app u vs (x.judged + 1)) (set x.levels k after) level
-            (All-set (IsLevel app u vs (x.judged + 1)) x.levels k after
+        levels = each_replaced x.levels k after (IsLevel app u vs (x.judged + 1))
             (subst (IsLevel app u vs (x.judged + 1)) (sym after_is) (one_more_of (IsLiveAt app u l.priority) x.judged l.numbers v (h.levels l (k, known, at)) is live))
-            (λ i d lt. still_of (IsLiveAt app u (get_or x.levels i d).priority) x.judged (get_or x.levels i d).numbers (h.levels (get_or x.levels i d) (Contains-get_or x.levels i d lt))))
-            there;
+            (λ level there. still_of (IsLiveAt app u level.priority) x.judged level.numbers (h.levels level there));
+        from = each_replaced x.levels k after (λ (y : Level). AreFrom app u vs (x.judged + 1) y.priority y.from)
+            (subst (λ (y : Level). AreFrom app u vs (x.judged + 1) y.priority y.from) (sym after_is) (next l (k, known, at)))
+            next;
         whole = λ n lt. told_place x.dead (set x.levels k after) n (elim (cases_eq n x.judged) [
-          | inl new ↦ inr (at_its n (with_new l.numbers x.judged n new))
+          | inl new ↦ inr (at_replaced x.levels k l after known n (has_after n (with_new l.numbers x.judged n new)))
           | inr other ↦ elim (found_place x.dead x.levels n (h.whole n (omega (arith, lt, other)))) [
             | inl dead ↦ inl dead
-            | inr old ↦ inr (stays n old)
+            | inr old ↦ inr (level_stays x.levels k l after known at (λ m has. has_after m (with_old l.numbers x.judged m has)) n old)
           ]
         ]);
       })

@@ -8,7 +8,7 @@ use Rattle.numbered_sets.specs.{declared.numbered_entry.NumberedEntry.{NumberedE
 use Rattle.numbered_sets.specs.{Pools.{Values, values_at, IsExtended, IsLonger}, Views.{plain_set, plain_entry, AreNumbersOf}}
 use Rattle.numbered_sets.proofs.{PlainLaws.{member_of_plain, plain_set_at}, SiftLaws.{value_sifted}}
 use Rattle.point_exits.specs.{declared.{task_levels.TaskLevels.{TaskLevels}, arrivals.Arrivals.{Arrivals}, levels.Levels.{Levels}}, Arrivals.{AreKnownArrivals}}
-use Rattle.point_exits.specs.Levels.{IsLiveAt, AreOf, IsDead, AreTaskLevels, AreInsides, AreLevels, IsNarrowed}
+use Rattle.point_exits.specs.Levels.{IsLiveAt, IsLiveFrom, AreOf, AreFrom, IsDead, AreTaskLevels, AreInsides, AreLevels, IsNarrowed}
 use Rattle.point_exits.proofs.{InsideLevels.{insides_longer}, KnownArrivals.{no_arrivals}}
 
 -- ---- a pool that grew
@@ -20,11 +20,20 @@ module _ (vs ws : List PartValue) (longer : IsExtended vs ws) where
   still_of : (P : PartValue → Type 0) (k : ℕ) (x : Numbers) → k ≤ length vs → AreOf P vs k x → AreOf P ws k x
   still_of P k x few h n d has = (let old = h n d has in (old.0, subst P (sym (same_at n d (omega (arith, old.0, few)))) old.1))
 
+  from_longer : (app : App) (u k p : ℕ) (x : Numbers) → k ≤ length vs → AreFrom app u vs k p x → AreFrom app u ws k p x
+  from_longer app u k p x few h = record {
+    each = λ n d has. (
+        let old = h.each n d has in
+        (omega (arith, old.0, ap length longer.is, length-append vs longer.more), subst (IsLiveFrom app u p) (sym (same_at n d old.0)) old.1));
+    whole = λ n d lt live. h.whole n d lt (subst (IsLiveFrom app u p) (same_at n d (omega (arith, lt, few))) live);
+  }
+
   pub task_levels_longer : (app : App) (u : ℕ) (x : TaskLevels) → AreTaskLevels app u vs x → AreTaskLevels app u ws x
   task_levels_longer app u x h = record {
     few = omega (arith, h.few, ap length longer.is, length-append vs longer.more);
     dead = still_of IsDead x.judged x.dead h.few h.dead;
     levels = λ level there. still_of (IsLiveAt app u level.priority) x.judged level.numbers h.few (h.levels level there);
+    from = λ level there. from_longer app u x.judged level.priority level.from h.few (h.from level there);
     whole = h.whole;
   }
 

@@ -1,5 +1,6 @@
 pub mod FoundLevels
 pub mod JudgedValues
+pub mod LevelsFrom
 pub mod NarrowingLaws
 pub mod InsideLevels
 pub mod KnownArrivals

@@ -1,18 +1,18 @@
 -- What the levels of a task say of its values, and what is left of an entry's numbers without some of them.
-use Rattle.std.proofs.Common.{◌≡◌, ◌⊎◌, ℕ, ◌+◌, ◌-◌, ◌^◌, ◌<◌, ◌≤◌, min, Bool, true, false, ◌&&◌, not, List, length, get_or, set, refl, sym, ap, ap₂, subst, ◌∙◌, inl, inr, arith, IsTrue, get_or-set_same}
-use Rattle.std.specs.{Prelude.{Contains}, Int.Bits.{and_zero_l}}
-use Rattle.std.proofs.lemmas.{Bool.{cases_eq, cases_lt}, List.{length-set, set-set, set-get_or, get_or_default, Elements.{Contains-get_or}}}
+use Rattle.std.proofs.Common.{◌≡◌, ◌⊎◌, ℕ, ◌+◌, ◌-◌, ◌^◌, ◌<◌, ◌≤◌, min, Bool, true, false, ◌&&◌, not, List, length, get_or, set, refl, sym, ap, subst, ◌∙◌, inl, inr, arith, IsTrue, get_or-set_same}
+use Rattle.std.specs.{Prelude.{Contains, Some, None}, Int.Bits.{and_zero_l}}
+use Rattle.std.proofs.lemmas.{Bool.{cases_eq, cases_lt}, List.{set-set, set-get_or, get_or_default}}
 use Rattle.osek_standard.specs.declared.app.App.{App}
 use Rattle.abstract_state.specs.{declared.value.PartValue.{PartValue, TheVariants.{OfAlarm}}, Concrete.{val_of}}
-use Rattle.flow_model.specs.Values.{is_live_value}
+use Rattle.flow_model.specs.Values.{is_live_value, value_priority}
 use Rattle.numbered_sets.specs.{declared.numbered_entry.NumberedEntry.{NumberedEntry}, Numbers.{Numbers, has_number, other_numbers, meets}, NumberedEntries.{no_set, numbers_at}}
 use Rattle.numbered_sets.specs.Pools.{Values, values_at}
 use Rattle.numbered_sets.proofs.{ViewLaws.{false_unless}, MeetLaws.{has_other, common_of, meets_at}}
 use Rattle.flow_exits.specs.Claims.{is_below}
 use Rattle.flow_exits.proofs.PriorityTests.{below_means, below_passes}
 use Rattle.point_exits.specs.declared.task_levels.{Level.{Level}, TaskLevels.{TaskLevels}}
-use Rattle.point_exits.specs.Levels.{IsLiveAt, IsDead, AreTaskLevels, AreAllJudged, HasBelow, IsLeastLimit, IsNarrowed}
-use Rattle.point_exits.proofs.FoundLevels.{HasLevel, found_place}
+use Rattle.point_exits.specs.Levels.{IsLiveAt, IsDead, AreTaskLevels, IsLeastFrom, AreAllJudged, HasBelow, IsLeastLimit, IsNarrowed}
+use Rattle.point_exits.proofs.{FoundLevels.{HasLevel, found_place}, LevelsFrom.{not_lower}}
 
 -- ---- values and a limit
 
@@ -188,74 +188,18 @@ module _ (c : ℕ) (entry after : NumberedEntry) (y : Numbers) (known : c < leng
     domain = left_domain ∙ h.domain;
   }
 
--- The numbers of the levels up to a place that aren't below a limit were left out.
-pub record AreCutUpTo (levels : List Level) (limit c k : ℕ) (entry after : NumberedEntry) : Type 0 where
-  pub few : k ≤ length levels
-  pub as_many : length after.sets ≡ length entry.sets
-  pub replaced : IsReplaced c entry after
-  pub fewer : (n : ℕ) → IsTrue (has_number (numbers_at after c) n) → IsTrue (has_number (numbers_at entry c) n)
-  pub gone : (n i : ℕ) (d : Level) → IsTrue (has_number (numbers_at after c) n) → i < k → limit ≤ (get_or levels i d).priority → has_number (get_or levels i d).numbers n ≡ false
-  pub stays : (n : ℕ) → IsTrue (has_number (numbers_at entry c) n) → ((i : ℕ) (d : Level) → i < k → limit ≤ (get_or levels i d).priority → has_number (get_or levels i d).numbers n ≡ false) → IsTrue (has_number (numbers_at after c) n)
-
-lacks : (a b : Bool) → (a && not b) ≡ true → b ≡ false
-lacks true true e = absurd (cc)
-lacks true false e = refl
-lacks false b e = absurd (cc)
-
 has_first : (a b : Bool) → (a && not b) ≡ true → a ≡ true
 has_first true b e = refl
 has_first false b e = e
-
-has_alone : (a b : Bool) → a ≡ true → b ≡ false → (a && not b) ≡ true
-has_alone a b e none = ap₂ (λ (p q : Bool). p && not q) e none
-
-module _ (levels : List Level) (limit c k : ℕ) (entry now : NumberedEntry) (level : Level) (h : AreCutUpTo levels limit c k entry now) (there : k < length levels) (at : get_or levels k level ≡ level) where
-  the_level : (i : ℕ) (d : Level) → i ≡ k → get_or levels i d ≡ level
-  the_level i d same = ap (λ (j : ℕ). get_or levels j d) same ∙ get_or_default levels k d level there ∙ at
-
-  pub level_kept : level.priority < limit → AreCutUpTo levels limit c (k + 1) entry now
-  level_kept low = record {
-    few = omega (arith, there);
-    as_many = h.as_many;
-    replaced = h.replaced;
-    fewer = h.fewer;
-    gone = λ n i d has lt le. elim (cases_eq i k) [
-      | inl same ↦ absurd (let priority = ap (λ (l : Level). l.priority) (the_level i d same) in omega (arith, priority, le, low))
-      | inr other ↦ h.gone n i d has (omega (arith, lt, other)) le
-    ];
-    stays = λ n has none. h.stays n has (λ i d lt le. none i d (omega (arith, lt)) le);
-  }
-
-  module _ (after : NumberedEntry) (known : c < length entry.sets) (write : after.sets ≡ set now.sets c (other_numbers (numbers_at now c) level.numbers)) (high : limit ≤ level.priority) where
-    here : c < length now.sets
-    here = omega (arith, known, h.as_many)
-
-    had : (n : ℕ) → IsTrue (has_number (numbers_at after c) n) → IsTrue (has_number (numbers_at now c) n)
-    had n has = has_first (has_number (numbers_at now c) n) (has_number level.numbers n) (sym (has_left c now after level.numbers here write n) ∙ has)
-
-    pub level_cut : AreCutUpTo levels limit c (k + 1) entry after
-    level_cut = record {
-      few = omega (arith, there);
-      as_many = ap length write ∙ length-set now.sets c (other_numbers (numbers_at now c) level.numbers) ∙ h.as_many;
-      replaced = replaced_on c now after level.numbers here write entry h.replaced;
-      fewer = λ n has. h.fewer n (had n has);
-      gone = λ n i d has lt le. elim (cases_eq i k) [
-        | inl same ↦
-            ap (λ (l : Level). has_number l.numbers n) (the_level i d same)
-            ∙ lacks (has_number (numbers_at now c) n) (has_number level.numbers n) (sym (has_left c now after level.numbers here write n) ∙ has)
-        | inr other ↦ h.gone n i d (had n has) (omega (arith, lt, other)) le
-      ];
-      stays = λ n has none.
-          has_left c now after level.numbers here write n
-          ∙ has_alone (has_number (numbers_at now c) n) (has_number level.numbers n)
-          (h.stays n has (λ i d lt le. none i d (omega (arith, lt)) le))
-          (sym (ap (λ (l : Level). has_number l.numbers n) at) ∙ none k level (omega arith) (subst (λ (l : Level). limit ≤ l.priority) (sym at) high));
-    }
 
 -- what each number of an entry says of what is left
 narrowed_at : (a b p : Bool) → (b ≡ true → a ≡ true) → (a ≡ true → b ≡ p) → b ≡ (a && p)
 narrowed_at true b p fewer same = same refl
 narrowed_at false b p fewer same = false_unless b ⊥ (λ e. let had = fewer e in absurd (cc)) (λ no. no)
+
+told : (a b : Bool) → (a ≡ true → b ≡ false) → (a ≡ false → b ≡ true) → b ≡ not a
+told true b high low = high refl
+told false b high low = low refl
 
 module _ (app : App) (u : ℕ) (pool : List Values) (levels : TaskLevels) (entry after : NumberedEntry) (h : AreTaskLevels app u (values_at pool u) levels) (all : AreAllJudged levels (numbers_at entry u)) where
   lives : (level : Level) → Contains levels.levels level → (n : ℕ) (d : PartValue) → IsTrue (has_number level.numbers n) → IsLiveAt app u level.priority (get_or (values_at pool u) n d)
@@ -279,39 +223,47 @@ module _ (app : App) (u : ℕ) (pool : List Values) (levels : TaskLevels) (entry
                 ap not (false_unless (has_number levels.dead n) ⊥ (λ dead. let gone = (h.dead n d dead).1 in absurd (cc)) (λ no. no)) ∙ sym live)
           ])
 
-  module _ (limit k : ℕ) (cut : AreCutUpTo levels.levels limit u k entry after) (whole : length levels.levels ≤ k) where
-    below_left : (n : ℕ) (d : PartValue) → IsTrue (has_number (numbers_at entry u) n) → has_number (numbers_at after u) n ≡ is_below app u limit (val_of (get_or (values_at pool u) n d))
-    below_left n d has = elim (found_place levels.dead levels.levels n (h.whole n (all n has))) [
-      | inl dead ↦
-          cut.stays n has (λ i e lt le. false_unless (has_number (get_or levels.levels i e).numbers n) ⊥ (λ there.
-          let live = (lives (get_or levels.levels i e) (Contains-get_or levels.levels i e (omega (arith, lt, cut.few))) n d there).live in
-          let gone = (h.dead n d dead).1 in
-          absurd (cc)) (λ no. no))
-          ∙ sym (dead_below app u limit (get_or (values_at pool u) n d) (h.dead n d dead).1)
-      | inr its ↦
-          (let live = lives its.level its.listed n d its.has in
-          elim (cases_lt its.level.priority limit) [
-            | inl low ↦
-                cut.stays n has (λ i e lt le. false_unless (has_number (get_or levels.levels i e).numbers n) ⊥ (λ there.
-                let other = (lives (get_or levels.levels i e) (Contains-get_or levels.levels i e (omega (arith, lt, cut.few))) n d there).priority in
-                omega (arith, other, live.priority, le, low)) (λ no. no))
-                ∙ sym (live_below app u limit (get_or (values_at pool u) n d) its.level.priority live low)
-            | inr high ↦
-                false_unless (has_number (numbers_at after u) n) ⊥ (λ left.
-                let place = its.listed.0 in
-                let at = its.listed.2 in
-                let gone = cut.gone n place its.level left (omega (arith, its.listed.1, whole)) (subst (λ (l : Level). limit ≤ l.priority) (sym at) high) in
-                let there = ap (λ (l : Level). has_number l.numbers n) at ∙ its.has in
-                absurd (cc)) (λ no. no)
-                ∙ sym (live_not_below app u limit (get_or (values_at pool u) n d) its.level.priority live high)
-          ])
-    ]
-
-    pub narrowed_below : IsNarrowed (λ v. is_below app u limit (val_of v)) pool u entry after
-    narrowed_below = record {
-      rest = cut.replaced.rest;
-      domain = cut.replaced.domain;
-      each = λ n d.
-          narrowed_at (has_number (numbers_at entry u) n) (has_number (numbers_at after u) n) (is_below app u limit (val_of (get_or (values_at pool u) n d)))
-          (cut.fewer n) (below_left n d);
+  module _ (limit : ℕ) where
+    -- no value of the entry is at a limit or above it
+    pub all_below : after.sets ≡ entry.sets → IsLeastFrom levels.levels limit (length levels.levels) None → IsNarrowed (λ v. is_below app u limit (val_of v)) pool u entry after
+    all_below same low = record {
+      rest = same ∙ sym (ap (set entry.sets u) (ap (λ (xs : List Numbers). get_or xs u no_set) same) ∙ set-get_or entry.sets u no_set);
+      domain = ap (λ (xs : List Numbers). (get_or xs u no_set).domain) same;
+      each = λ n d. ap (λ (xs : List Numbers). has_number (get_or xs u no_set) n) same
+          ∙ narrowed_at (has_number (numbers_at entry u) n) (has_number (numbers_at entry u) n) (is_below app u limit (val_of (get_or (values_at pool u) n d))) (λ has. has)
+          (λ has. has ∙ sym (elim (found_place levels.dead levels.levels n (h.whole n (all n has))) [
+            | inl dead ↦ dead_below app u limit (get_or (values_at pool u) n d) (h.dead n d dead).1
+            | inr its ↦
+                (let priority = ap (λ (l : Level). l.priority) its.listed.2 in
+                let less = low its.listed.0 its.level its.listed.1 in
+                live_below app u limit (get_or (values_at pool u) n d) its.level.priority (lives its.level its.listed n d its.has) (omega (arith, less, priority)))
+          ]));
     }
+
+    module _ (place : ℕ) (above : Level) (least : IsLeastFrom levels.levels limit (length levels.levels) (Some place)) (at : get_or levels.levels place above ≡ above) where
+      not_below : (n : ℕ) (d : PartValue) → IsTrue (has_number above.from n) → is_below app u limit (val_of (get_or (values_at pool u) n d)) ≡ false
+      not_below n d has =
+          let from = ((h.from above (place, least.0, at)).each n d has).1 in
+          let high = least.1 above in
+          let priority = ap (λ (l : Level). l.priority) at in
+          live_not_below app u limit (get_or (values_at pool u) n d) (value_priority app u (val_of (get_or (values_at pool u) n d))) (record { live = from.live; priority = refl })
+          (let up = from.priority in omega (arith, high, priority, up))
+
+      below_else : (n : ℕ) (d : PartValue) → n < levels.judged → has_number above.from n ≡ false → is_below app u limit (val_of (get_or (values_at pool u) n d)) ≡ true
+      below_else n d lt none = below_passes app u limit (val_of (get_or (values_at pool u) n d)) (λ live. elim (cases_lt (value_priority app u (val_of (get_or (values_at pool u) n d))) limit) [
+        | inl low ↦ low
+        | inr high ↦ absurd (let has = not_lower app u (values_at pool u) levels limit h place above least at n d lt (record { live = live; priority = high }) in cc)
+      ])
+
+      pub narrowed_below : u < length entry.sets → after.sets ≡ set entry.sets u (other_numbers (numbers_at entry u) above.from) → IsNarrowed (λ v. is_below app u limit (val_of v)) pool u entry after
+      narrowed_below known write = record {
+        rest = (replaced_on u entry after above.from known write entry (not_replaced u entry)).rest;
+        domain = left_domain u entry after above.from known write;
+        each = λ n d. has_left u entry after above.from known write n
+            ∙ narrowed_at (has_number (numbers_at entry u) n) (has_number (numbers_at entry u) n && not (has_number above.from n)) (is_below app u limit (val_of (get_or (values_at pool u) n d)))
+            (has_first (has_number (numbers_at entry u) n) (has_number above.from n))
+            (λ has. ap (λ (a : Bool). a && not (has_number above.from n)) has ∙ sym (not_from n d (all n has)));
+      }
+        where
+          not_from : (n : ℕ) (d : PartValue) → n < levels.judged → is_below app u limit (val_of (get_or (values_at pool u) n d)) ≡ not (has_number above.from n)
+          not_from n d lt = told (has_number above.from n) (is_below app u limit (val_of (get_or (values_at pool u) n d))) (not_below n d) (below_else n d lt)

@@ -1,5 +1,5 @@
 -- The values of tasks by what the scheduler reads of them.
-use Rattle.std.specs.{Prelude.{◌≡◌, ◌≢◌, ℕ, ◌<◌, ◌≤◌, ◌+◌, ◌&&◌, ◌||◌, Bool, false, List, [], length, map, slice_index_or, slice_set, IsTrue, is_some, Contains}, List.{list_any}}
+use Rattle.std.specs.{Prelude.{◌≡◌, ◌≢◌, ℕ, ◌<◌, ◌≤◌, ◌+◌, ◌&&◌, ◌||◌, Bool, false, List, [], length, map, slice_index_or, slice_set, IsTrue, Some, None, is_some, Contains}, List.{list_any}, declared.option.Option.{Option}}
 use Rattle.osek_values.specs.{Numbers.{task_no}, declared.numbers.TaskNo.{TaskNo}}
 use Rattle.osek_standard.specs.{declared.app.App.{App}, Internal.{internal_of}}
 use Rattle.abstract_state.specs.{declared.value.PartValue.{PartValue}, Concrete.{val_of}, Domains.{IsWithin, domains_of}}
@@ -16,6 +16,11 @@ pub record IsLiveAt (app : App) (u p : ℕ) (v : PartValue) : Type 0 where
   pub live : IsTrue (is_live_value (val_of v))
   pub priority : value_priority app u (val_of v) ≡ p
 
+-- with this value task u is Live, at this current priority or above
+pub record IsLiveFrom (app : App) (u p : ℕ) (v : PartValue) : Type 0 where
+  pub live : IsTrue (is_live_value (val_of v))
+  pub priority : p ≤ value_priority app u (val_of v)
+
 -- the numbers are those of values with a property, among the first ones
 abbrev pub AreOf : (PartValue → Type 0) → List PartValue → ℕ → Numbers → Type 0
 AreOf P vs judged x = (n : ℕ) (d : PartValue) → IsTrue (has_number x n) → (n < judged) × P (slice_index_or vs n d)
@@ -30,11 +35,19 @@ IsLevel app u vs judged x = AreOf (IsLiveAt app u x.priority) vs judged x.number
 abbrev pub is_at_level : List Level → ℕ → Bool
 is_at_level levels n = list_any (λ (level : Level). has_number level.numbers n) levels
 
--- The first values of task u, by what the scheduler reads of them: each is dead or at a level.
+-- The numbers are of values from a priority on, and of the first values all those are there. Of a value that is judged next
+-- the number may be there already.
+pub record AreFrom (app : App) (u : ℕ) (vs : List PartValue) (judged p : ℕ) (x : Numbers) : Type 0 where
+  pub each : AreOf (IsLiveFrom app u p) vs (length vs) x
+  pub whole : (n : ℕ) (d : PartValue) → n < judged → IsLiveFrom app u p (slice_index_or vs n d) → IsTrue (has_number x n)
+
+-- The first values of task u, by what the scheduler reads of them: each is dead or at a level, and those from each level's
+-- priority on are known.
 pub record AreTaskLevels (app : App) (u : ℕ) (vs : List PartValue) (x : TaskLevels) : Type 0 where
   pub few : x.judged ≤ length vs
   pub dead : AreOf IsDead vs x.judged x.dead
   pub levels : (level : Level) → Contains x.levels level → IsLevel app u vs x.judged level
+  pub from : (level : Level) → Contains x.levels level → AreFrom app u vs x.judged level.priority level.from
   pub whole : (n : ℕ) → n < x.judged → IsTrue (has_number x.dead n || is_at_level x.levels n)
 
 -- the first of a task's values
@@ -49,6 +62,21 @@ pub record HasNext (values : TaskValues) (x : TaskLevels) : Type 0 where
 -- the next value was judged too
 abbrev pub with_next : TaskLevels → TaskLevels
 with_next x = record x { judged = x.judged + 1 }
+
+-- The number of the next value, which is at a priority, came to those from the priorities of the first k levels on.
+pub record ArePutFrom (priority : ℕ) (x y : TaskLevels) (k : ℕ) : Type 0 where
+  pub judged : y.judged ≡ x.judged
+  pub size : length y.levels ≡ length x.levels
+  pub priorities : (i : ℕ) (d : Level) → (slice_index_or y.levels i d).priority ≡ (slice_index_or x.levels i d).priority
+  pub levels : (app : App) (u : ℕ) (vs : List PartValue) (v : PartValue) → AreTaskLevels app u vs x → IsNumberOf vs v x.judged → IsLiveAt app u priority v → AreTaskLevels app u vs y
+  pub next : (app : App) (u : ℕ) (vs : List PartValue) (v : PartValue) → AreTaskLevels app u vs x → IsNumberOf vs v x.judged → IsLiveAt app u priority v →
+      (i : ℕ) (d : Level) → i < k → AreFrom app u vs (x.judged + 1) (slice_index_or y.levels i d).priority (slice_index_or y.levels i d).from
+
+-- the place is that of the least of the first k levels from a limit on
+abbrev pub IsLeastFrom : List Level → ℕ → ℕ → Option ℕ → Type 0
+IsLeastFrom levels limit k None = (i : ℕ) (d : Level) → i < k → (slice_index_or levels i d).priority < limit
+IsLeastFrom levels limit k (Some place) = (place < length levels) × ((d : Level) → limit ≤ (slice_index_or levels place d).priority) ×
+    ((i : ℕ) (d : Level) → i < k → limit ≤ (slice_index_or levels i d).priority → (slice_index_or levels place d).priority ≤ (slice_index_or levels i d).priority)
 
 -- the first values of a task, each with the number of the same value inside
 pub record AreInside (vs : List PartValue) (x : Insides) : Type 0 where

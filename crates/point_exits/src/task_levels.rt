@@ -13,6 +13,8 @@ use std::alloc::Global;
 pub struct Level {
     pub priority: u32,
     pub numbers: NumberedSet,
+    /// Those of the values with which it is Live at this priority or above, so that one look leaves out all of them.
+    pub from: NumberedSet,
 }
 
 /// The numbers of a task's values: those with which it isn't Live, and those of each current priority.
@@ -40,7 +42,7 @@ impl TaskLevels {
     ghost use Rattle.abstract_state.specs.{declared.value.PartValue.{PartValue}, Concrete.{val_of}};
     ghost use Rattle.numbered_sets.specs.{Numbers.{has_number}, Pools.{values_at, IsNumberOf, Values}, NumberedEntries.{numbers_at}};
     ghost use Rattle.point_exits.specs.declared.task_levels.Level.{Level};
-    ghost use Rattle.point_exits.specs.Levels.{IsLiveAt, AreTaskLevels, AreLevelsOf, HasNext, with_next, AreAllJudged, IsLeastLimit, IsNarrowed};
+    ghost use Rattle.point_exits.specs.Levels.{IsLiveAt, AreFrom, AreTaskLevels, AreLevelsOf, HasNext, with_next, ArePutFrom, IsLeastFrom, AreAllJudged, IsLeastLimit, IsNarrowed};
     ghost use Rattle.flow_model.specs.Values.{is_live_value};
     ghost use Rattle.flow_exits.specs.Claims.{is_below};
 
@@ -90,19 +92,9 @@ impl TaskLevels {
         ensures level { IfSome result (λ place. (d : Level) (v : PartValue) → IsNumberOf (values_at values.now.pool.now values.now.task.0) v self.now.judged →
             IsLiveAt values.now.app.now values.now.task.0 (slice_index_or self.now.levels place d).priority v) }
     {
-        match values.pool.beside(values.task.index(), self.judged) {
-            None => None,
-            Some(beside) => self.place_with(beside),
-        }
-    }
-
-    // the place of the level that has a number
-    fn place_with(&self, number: usize) -> Option<usize>
-        ensures known { IfSome result (λ place. place < length self.now.levels) }
-        ensures has { IfSome result (λ place. (d : Level) → IsTrue (has_number (slice_index_or self.now.levels place d).numbers number)) }
-    {
+        let beside = values.pool.beside(values.task.index(), self.judged)?;
         for place in 0..self.levels.len() {
-            if self.levels.at(place).numbers.has(number) {
+            if self.levels.at(place).numbers.has(beside) {
                 return Some(place);
             }
         }
@@ -114,7 +106,8 @@ impl TaskLevels {
         ensures levels { OnOk result ((vs : List PartValue) → AreTaskLevels values.now.app.now values.now.task.0 vs self.old → IsNumberOf vs value.now self.old.judged →
             AreTaskLevels values.now.app.now values.now.task.0 vs (with_next self.new)) }
         ensures judged { OnOk result (self.new.judged ≡ self.old.judged) }
-        ensures err { OnErr result ((vs : List PartValue) → AreTaskLevels values.now.app.now values.now.task.0 vs self.old → AreTaskLevels values.now.app.now values.now.task.0 vs self.new) }
+        ensures err { OnErr result ((vs : List PartValue) → AreTaskLevels values.now.app.now values.now.task.0 vs self.old → IsNumberOf vs value.now self.old.judged →
+            AreTaskLevels values.now.app.now values.now.task.0 vs self.new) }
     {
         match as_candidate(values.app, values.task, value) {
             None => {
@@ -134,11 +127,29 @@ impl TaskLevels {
         ensures levels { OnOk result ((app : App) (u : ℕ) (vs : List PartValue) (v : PartValue) → AreTaskLevels app u vs self.old → IsNumberOf vs v self.old.judged →
             ((d : Level) → IsLiveAt app u (slice_index_or self.old.levels place d).priority v) → AreTaskLevels app u vs (with_next self.new)) }
         ensures judged { OnOk result (self.new.judged ≡ self.old.judged) }
-        ensures err { OnErr result ((app : App) (u : ℕ) (vs : List PartValue) → AreTaskLevels app u vs self.old → AreTaskLevels app u vs self.new) }
+        ensures err { OnErr result ((app : App) (u : ℕ) (vs : List PartValue) (v : PartValue) → AreTaskLevels app u vs self.old → IsNumberOf vs v self.old.judged →
+            ((d : Level) → IsLiveAt app u (slice_index_or self.old.levels place d).priority v) → AreTaskLevels app u vs self.new) }
     {
         let number = self.judged;
+        let priority = self.levels.at(place).priority;
+        self.put_from(priority)?;
         let level = self.levels.at_mut(place);
         level.numbers.put(number)?;
+        Ok(())
+    }
+
+    // Puts the next number, of a value at a priority, to those from each priority up to it on.
+    fn put_from(&mut self, priority: u32) -> Result<(), Memory>
+        ensures put { ArePutFrom priority self.old self.new 0 }
+        ensures all { OnOk result (ArePutFrom priority self.old self.new (length self.old.levels)) }
+    {
+        let number = self.judged;
+        for place in 0..self.levels.len() {
+            let level = self.levels.at_mut(place);
+            if level.priority <= priority {
+                level.from.put(number)?;
+            }
+        }
         Ok(())
     }
 
@@ -149,25 +160,54 @@ impl TaskLevels {
         ensures levels { (app : App) (u : ℕ) (vs : List PartValue) → AreTaskLevels app u vs self.old → AreTaskLevels app u vs self.new }
         ensures judged { OnOk result (self.new.judged ≡ self.old.judged) }
     {
-        let place = self.place_of(priority);
-        if place == self.levels.len() {
-            let numbers = NumberedSet::new(alloc, self.dead.domain());
-            self.levels.push(Level { priority, numbers })?;
-        }
-        Ok(place)
-    }
-
-    // the place of the level of a priority; past the last one where there is none
-    fn place_of(&self, priority: u32) -> usize
-        ensures few { result ≤ length self.now.levels }
-        ensures at { (d : Level) → result < length self.now.levels → (slice_index_or self.now.levels result d).priority ≡ priority }
-    {
-        for place in 0..self.levels.len() {
+        let count = self.levels.len();
+        for place in 0..count {
             if self.levels.at(place).priority == priority {
-                return place;
+                return Ok(place);
             }
         }
-        self.levels.len()
+        let numbers = NumberedSet::new(alloc, self.dead.domain());
+        let from = self.numbers_from(alloc, priority)?;
+        self.levels.push(Level {
+            priority,
+            numbers,
+            from,
+        })?;
+        Ok(count)
+    }
+
+    // the numbers of the values from a priority on
+    fn numbers_from(&self, alloc: Global, priority: u32) -> Result<NumberedSet, Memory>
+        ensures { IfOk result (λ from. (app : App) (u : ℕ) (vs : List PartValue) → AreTaskLevels app u vs self.now → AreFrom app u vs self.now.judged priority from) }
+    {
+        let mut from = NumberedSet::new(alloc, self.dead.domain());
+        let Some(place) = self.place_from(priority as u64) else {
+            return Ok(from);
+        };
+        let above = &self.levels.at(place).from;
+        let count = self.judged;
+        let mut number = above.next(0, count);
+        while number < count {
+            from.put(number)?;
+            number = above.next(number + 1, count);
+        }
+        Ok(from)
+    }
+
+    // the place of the least level from a limit on
+    fn place_from(&self, limit: u64) -> Option<usize>
+        ensures { IsLeastFrom self.now.levels limit (length self.now.levels) result }
+    {
+        let mut least = None;
+        let mut bound = u64::MAX;
+        for place in 0..self.levels.len() {
+            let priority = self.levels.at(place).priority as u64;
+            if limit <= priority && priority < bound {
+                least = Some(place);
+                bound = priority;
+            }
+        }
+        least
     }
 
     /// The least limit under which the task is with some value of an entry; past all priorities where it has none.
@@ -200,12 +240,10 @@ impl TaskLevels {
         ensures { OnOk result ((app : App) (pool : List Values) → AreTaskLevels app task.0 (values_at pool task.0) self.now → AreAllJudged self.now (numbers_at entry.old task.0) →
             IsNarrowed (λ v. is_below app task.0 limit (val_of v)) pool task.0 entry.old entry.new) }
     {
-        for level in self.levels.as_slice() {
-            if level.priority as u64 >= limit {
-                entry.leave_out(task.index(), &level.numbers)?;
-            }
-        }
-        Ok(())
+        let Some(place) = self.place_from(limit) else {
+            return Ok(());
+        };
+        entry.leave_out(task.index(), &self.levels.at(place).from)
     }
 
     /// Leaves out the numbers of the values with which the task isn't Live.

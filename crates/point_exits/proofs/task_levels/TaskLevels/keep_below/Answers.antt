@@ -1,36 +1,25 @@
-use Rattle.std.proofs.Common.{◌≡◌, ℕ, ◌+◌, List, set, length, sym, ap, subst, arith}
+use Rattle.std.proofs.Common.{◌≡◌, ℕ, refl, set, length, subst}
+use Rattle.std.proofs.lemmas.Result.{on_ok_weaker}
 use Rattle.numbered_sets.specs.{Numbers.{other_numbers}, NumberedEntries.{numbers_at}}
-use Rattle.point_exits.specs.declared.task_levels.Level.{Level}
-use Rattle.point_exits.proofs.{NarrowingLaws.{AreCutUpTo, level_kept, level_cut, narrowed_below}, task_levels.TaskLevels.keep_below.Goals.{then-level-limit+in_ok-leave_out, else-level-limit}}
+use Rattle.point_exits.specs.Levels.{IsLeastFrom}
+use Rattle.point_exits.proofs.NarrowingLaws.{all_below, narrowed_below}
 use Rattle.point_exits.proofs.task_levels.TaskLevels.keep_below.Goals as goal
 
-pub leave_out-requires : goal.leave_out-requires
-leave_out-requires c = omega (arith, c.requires, c.loop-level.invariant.as_many, c.index.ensures)
-
-pub loop-level-preserved : goal.loop-level-preserved
-loop-level-preserved c =
-    let items = c.as_slice-level-items.result.now in
-    let limit = c.args.limit in
-    let u = c.args.task.0 in
-    let k = c.loop-level.level-index in
-    let now = c.loop-level.entry in
-    let level = c.level-item.result in
-    elim c.if-level-limit.branch [
-      | then-level-limit+in_ok-leave_out w ↦
-          (let write =
-          subst (λ (n : ℕ). w.leave_out.new.self.sets ≡ set now.sets n (other_numbers (numbers_at now n) level.numbers)) w.index.ensures w.in_ok-leave_out.ensures.sets in
-          subst (AreCutUpTo items limit u (k + 1) c.args.entry.now) (sym w.entry-is)
-          (level_cut items limit u k c.args.entry.now now level c.loop-level.invariant c.loop-level-test.true (sym c.level-item.is) w.leave_out.new.self c.requires write w.if-level-limit.true))
-      | else-level-limit w ↦
-          subst (AreCutUpTo items limit u (k + 1) c.args.entry.now) (sym w.entry-is)
-          (level_kept items limit u k c.args.entry.now now level c.loop-level.invariant c.loop-level-test.true (sym c.level-item.is) w.if-level-limit.false)
-    ]
-
 pub returns : goal.returns
-returns c = λ app pool h all.
-    let limit = c.args.limit in
+returns c =
+    let x = c.args.self.now in
+    let entry = c.args.entry.now in
     let u = c.args.task.0 in
-    let k = c.loop-level.level-index in
-    let same = c.as_slice-level-items.ensures in
-    let cut = subst (λ (levels : List Level). AreCutUpTo levels limit u k c.args.entry.now c.loop-level.entry) same c.loop-level.invariant in
-    narrowed_below app u pool c.args.self.now c.args.entry.now c.loop-level.entry h all limit k cut (omega (arith, ap length same, c.loop-level-test.false))
+    let above = c.at.result.now in
+    let least = subst (IsLeastFrom x.levels c.args.limit (length x.levels)) c.in-Some.is c.place_from.ensures in
+    on_ok_weaker c.leave_out.result
+    (λ left app pool h all.
+    let write = subst (λ (n : ℕ). c.leave_out.new.self.sets ≡ set entry.sets n (other_numbers (numbers_at entry n) above.from)) c.index.ensures left in
+    narrowed_below app u pool x entry c.leave_out.new.self h all c.args.limit c.in-Some.place above least (c.at.ensures.item above) c.requires write)
+    c.leave_out.ensures.sets
+
+pub returns-in_default : goal.returns-in_default
+returns-in_default c = λ app pool h all.
+    let x = c.args.self.now in
+    let entry = c.args.entry.now in
+    all_below app c.args.task.0 pool x entry entry h all c.args.limit refl (subst (IsLeastFrom x.levels c.args.limit (length x.levels)) c.in_default.is c.place_from.ensures)
