@@ -5,7 +5,7 @@ ghost use Rattle.osek_standard.specs.Apps.{the_task, is_extended};
 ghost use Rattle.flow_model.specs.Runners.{IsKnown};
 ghost use Rattle.flow_effects.specs.Waiting.{of_event, awaited_events, goes_on_by, waits, extended_cases, wait_cases, event_component, IsBeforeEvent};
 
-use crate::conditions::if_task;
+use crate::conditions::{if_task, of_task};
 use crate::effects::{Alternatives, Effects};
 use crate::moves::refuses;
 use crate::task_ends::refused_holding;
@@ -79,6 +79,15 @@ fn add_goes_on(
     Ok(())
 }
 
+// no condition, with room for one of the task and one of each of the events
+fn room_for(alloc: Global, app: &App, task: TaskNo, mask: Mask) -> Result<Seq<Condition>, Memory>
+    requires { task.0 < length app.now.tasks }
+    ensures { IfOk result (λ conditions. conditions ≡ []) }
+{
+    let events = awaited(app, task, mask).0.count_ones() as usize;
+    Ok(Seq::of(Vec::with_capacity(alloc, events + 1)?))
+}
+
 /// Adds of each of the events that it is set, or that it isn't.
 fn add_events(
     app: &App,
@@ -149,7 +158,8 @@ fn waits(
     requires { task.0 < length app.now.tasks }
     ensures { IfOk result (λ case. case ≡ waits app.now task block (awaited_events app.now task mask)) }
 {
-    let mut conditions = if_task(alloc, task, Test::HoldsNothing)?;
+    let mut conditions = room_for(alloc, app, task, mask)?;
+    conditions.push(of_task(task, Test::HoldsNothing))?;
     add_events(app, &mut conditions, task, mask, false)?;
     let mut changes = Seq::new(alloc);
     changes.push(Change {
@@ -265,7 +275,7 @@ impl Wait {
         let free = if_task(alloc, self.task, Test::HoldsNothing)?;
         let runner = Runner::Task(self.task);
         let effect = runner.goes_on(alloc, self.next, free, Asked::No, Some(Status::Ok))?;
-        let mut conditions = Seq::new(alloc);
+        let mut conditions = room_for(alloc, app, self.task, self.mask)?;
         add_events(app, &mut conditions, self.task, self.mask, true)?;
         Ok(Alternatives { effect, conditions })
     }

@@ -3,7 +3,7 @@ use Rattle.std.proofs.Common.{◌≡◌, ◌≢◌, ℕ, zero, suc, ◌+◌, ◌
 use Rattle.std.specs.{Prelude.{bit_or, count_ones}, Global.{Vec}}
 use Rattle.std.proofs.{Math.ListN.{get_or-eq_default}, lemmas.Bool.{cases_eq, cases_lt}}
 use Rattle.std.specs.Vec.{with_items}
-use Rattle.std.proofs.lemmas.{List.{length-set, set-get_or, with_items_is, Sums.{sum_by-cons}, Elements.{All-head, All-tail, All-from_get_or}}, Nat.{or_lt}}
+use Rattle.std.proofs.lemmas.{List.{length-set, with_items_is, Sums.{sum_by-cons}, Elements.{All-head, All-tail, All-from_get_or}}, Nat.{or_lt}}
 use Rattle.bit_words.specs.{Words.{bits_of_words, AreWords}, Further.{further_at, further_bits, further_count}}
 use Rattle.bit_words.proofs.{WordLaws.{small_at}, FirstWords.{word_first, same_further, ones_first, ones_of_two, either_two, none_first, bits_of_none}, FurtherLaws.{none_counted, further_past}}
 use Rattle.abstract_state.specs.declared.value.Domain.{Domain}
@@ -161,10 +161,6 @@ module _ (ds : List Domain) (low high : List ℕ) (more : List (List ℕ)) (xs :
 
 pub still_long : (ds : List Domain) (low low_new : List ℕ) (c w : ℕ) → low_new ≡ set low c w → length low ≡ length ds → length low_new ≡ length ds
 still_long ds low low_new c w is long = ap length is ∙ length-set low c w ∙ long
-
--- a word that was read stays where it is
-pub kept_word : (low ls : List ℕ) (c w : ℕ) → ls ≡ low → w ≡ get_or ls c 0 → low ≡ set low c w
-kept_word low ls c w is read = sym (ap (set low c) (read ∙ ap (λ (us : List ℕ). get_or us c 0) is) ∙ set-get_or low c 0)
 
 pub some_words : (a b : ℕ) (ws : List ℕ) → 0 < a + b → 0 < bits_of_words (a ∷ b ∷ ws)
 some_words a b ws some = (let first = word_first a (b ∷ ws) in let second = word_first b ws in omega (arith, first, second, some))

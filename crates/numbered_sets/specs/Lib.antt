@@ -14,3 +14,4 @@ pub mod PlainTables
 pub mod Counts
 pub mod Made
 pub mod Within
+pub mod Keeping

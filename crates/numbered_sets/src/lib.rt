@@ -22,6 +22,8 @@
 //!             Column    the number of each slot of one column, by its row
 //!         JudgedTests   tests that were asked of these values; not shared
 //!           JudgedTest  one test, and the numbers of the values that pass: a NumberedSet
+//!         MadeSets      what updates made of sets with many numbers; not shared
+//!           MadeSet     one update, a set, and what the update made of it: two NumberedSets
 //!
 //! Where a slot is, without a search. These own nothing.
 //!
@@ -37,6 +39,7 @@ mod judged;
 pub mod laws;
 mod load_updates;
 mod loads;
+mod made_sets;
 mod moving;
 mod numbered_entry;
 mod numbered_form;

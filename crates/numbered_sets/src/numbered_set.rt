@@ -1,5 +1,6 @@
 //! Sets of numbers, which stand for values of a domain.
-ghost use Rattle.std.specs.Prelude.{◌≡◌};
+ghost use Rattle.std.specs.Prelude.{◌≡◌, ◌≤◌, bit_or, length};
+ghost use Rattle.bit_words.specs.Words.{bits_of_words};
 
 use abstract_state::Domain;
 use bit_words::{split_words, words};
@@ -147,4 +148,86 @@ impl NumberedSet {
     {
         split_words::are_clear(self.low, self.high, self.more.as_slice())
     }
+
+    /// How many words it has past the first two.
+    pub fn words(&self) -> usize {
+        self.more.len()
+    }
+
+    /// Whether it has words past the first two, and numbers in at least half of them.
+    pub fn is_large(&self) -> bool {
+        !self.more.is_empty() && count_clear(self.more.as_slice()) <= self.more.len() / 2
+    }
+
+    /// The same set again.
+    pub fn copy(&self, alloc: Global) -> Result<NumberedSet, Memory>
+        ensures { IfOk result (λ set. set ≡ self.now) }
+    {
+        self.copy_for(alloc, self.domain)
+    }
+
+    /// The same numbers, of values of a domain.
+    pub fn copy_for(&self, alloc: Global, domain: Domain) -> Result<NumberedSet, Memory>
+        ensures { IfOk result (λ set. set ≡ numbers domain self.now.bits) }
+    {
+        let more = words::copied(alloc, self.more.as_slice())?;
+        Ok(NumberedSet {
+            domain,
+            low: self.low,
+            high: self.high,
+            more,
+        })
+    }
+
+    /// The numbers that another set lacks.
+    pub fn without(&self, alloc: Global, other: &NumberedSet) -> Result<NumberedSet, Memory>
+        ensures { IfOk result (λ set. set ≡ other_numbers self.now other.now) }
+    {
+        words::are_two_words(self.low, self.high);
+        words::are_two_words(other.low, other.high);
+        let mut more = words::copied(alloc, self.more.as_slice())?;
+        words::leave_out_trimmed(&mut more, other.more.as_slice());
+        Ok(NumberedSet {
+            domain: self.domain,
+            low: words::without(self.low, other.low),
+            high: words::without(self.high, other.high),
+            more,
+        })
+    }
+
+    /// Puts in the numbers of another set.
+    pub fn join(&mut self, other: &NumberedSet) -> Result<(), Memory>
+        ensures { OnOk result (self.new ≡ joined_numbers self.old other.now) }
+    {
+        words::are_two_words(self.low, self.high);
+        words::are_two_words(other.low, other.high);
+        words::widen(&mut self.more, other.more.len())?;
+        join_words(self.more.as_mut_slice(), other.more.as_slice());
+        self.low = self.low | other.low;
+        self.high = self.high | other.high;
+        Ok(())
+    }
+}
+
+// sets the bits of other words too
+fn join_words(words: &mut [u64], other: &[u64])
+    requires { length other.now ≤ length words.old }
+    ensures { bits_of_words words.new ≡ bit_or (bits_of_words words.old) (bits_of_words other.now) }
+{
+    words::are_words(words);
+    words::are_words(other);
+    for place in 0..other.len() {
+        words[place] = words[place] | other[place];
+    }
+}
+
+// how many words have no bit
+fn count_clear(words: &[u64]) -> usize {
+    let mut clear: usize = 0;
+    for word in words {
+        if *word == 0 {
+            clear = clear.saturating_add(1);
+        }
+    }
+    clear
 }

@@ -118,6 +118,31 @@ impl SeenValues {
         Ok(())
     }
 
+    /// The number of a value by itself, if a component's set has it.
+    pub fn only(
+        &self,
+        alloc: Global,
+        value: &PartValue,
+        component: usize,
+        entry: &NumberedEntry,
+    ) -> Result<NumberedSet, Memory>
+        requires { component < length entry.now.sets }
+        ensures { IfOk result (IsSifted self.now.values (Test.Is value.now) (numbers_at entry.now component)) }
+    {
+        self.are_values();
+        let mut only = NumberedSet::new(alloc, entry.sets.domain(component));
+        match self.number_of(value) {
+            None => Ok(only),
+            Some(number) => {
+                if !entry.sets.has(component, number) {
+                    return Ok(only);
+                }
+                only.put(number)?;
+                Ok(only)
+            }
+        }
+    }
+
     /// Whether a component's set has the number of a value.
     pub fn has_value(&self, value: &PartValue, component: usize, entry: &NumberedEntry) -> bool
         ensures { result ≡ is_member (plain_set self.now.values (numbers_at entry.now component)) value.now }

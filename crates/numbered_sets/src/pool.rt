@@ -14,6 +14,8 @@ use std::marker::Model;
 #[derive(Drop)]
 pub struct Pool {
     components: Seq<SharedValues>,
+    // for where numbers are asked; nothing rests on it
+    place: u32,
 }
 
 impl Model for Pool {
@@ -40,7 +42,10 @@ impl Pool {
         for domain in domains {
             components.push(SharedValues::new(alloc, *domain)?)?;
         }
-        Ok(Pool { components })
+        Ok(Pool {
+            components,
+            place: 0,
+        })
     }
 
     /// The number of a component's value, which comes in last where it is new.
@@ -86,7 +91,15 @@ impl Pool {
         ensures made { IfOk result (AreMade (updated update.now) (values_at self.new component) numbers.now (length (values_at self.old component))) }
     {
         let seen = self.components.at_mut(component);
-        seen.numbers_after(alloc, numbers, update)
+        seen.numbers_after(alloc, numbers, update, self.place)
+    }
+
+    /// Tells for where numbers will be asked. What updates make of large sets is kept for each place, as it asks again with sets
+    /// that have grown; for place 0, as long as none was told, nothing is kept.
+    pub fn turn_to(&mut self, place: u32)
+        ensures { self.new ≡ self.old }
+    {
+        self.place = place;
     }
 
     /// How many values a component was seen with.
@@ -163,6 +176,24 @@ impl Pool {
             .keep_passing(alloc, test, component, entry)
     }
 
+    /// The numbers of a component's values that pass a test. The entry stays as it is.
+    pub fn passing(
+        &mut self,
+        alloc: Global,
+        component: usize,
+        test: &Test,
+        entry: &NumberedEntry,
+    ) -> Result<NumberedSet, Memory>
+        requires known { component < length self.old }
+        requires set { component < length entry.now.sets }
+        ensures same { self.new ≡ self.old }
+        ensures passing { IfOk result (IsSifted (values_at self.old component) test.now (numbers_at entry.now component)) }
+    {
+        self.components
+            .at_mut(component)
+            .passing(alloc, test, component, entry)
+    }
+
     /// Another pool with the same values under the same numbers. The two share a component's values until either gets a new one there.
     pub fn copy(&self, alloc: Global) -> Result<Pool, Memory>
         ensures { IfOk result (λ pool. pool ≡ self.now) }
@@ -171,7 +202,10 @@ impl Pool {
         for seen in self.components.as_slice() {
             components.push(seen.share(alloc)?)?;
         }
-        Ok(Pool { components })
+        Ok(Pool {
+            components,
+            place: 0,
+        })
     }
 
     /// No value of a component has two numbers, and each is one of the component's domain.

@@ -4,6 +4,7 @@ ghost use Rattle.bit_words.specs.{Words.{bits_of_words}, Further.{further_bits}}
 ghost use Rattle.numbered_sets.specs.Within.{bits_beside};
 
 use crate::flat_sets::NumberedSets;
+use crate::numbered_set::NumberedSet;
 use bit_words::{SharedWords, further, words};
 use osek_values::Seq;
 
@@ -65,6 +66,42 @@ impl NumberedSets {
             further::of(&self.more, component),
             further::of(&other.more, component),
         )
+    }
+
+    /// Whether a component's set has each number of another one.
+    pub fn has_each(&self, component: usize, other: &NumberedSet) -> bool
+        ensures { result ≡ ((other_numbers other.now (set_of self.now component)).bits == 0) }
+    {
+        let low = words::word_at(self.low.as_slice(), component);
+        let high = words::word_at(self.high.as_slice(), component);
+        words::are_two_words(other.low, other.high);
+        if words::without(other.low, low) != 0 {
+            return false;
+        }
+        if words::without(other.high, high) != 0 {
+            return false;
+        }
+        are_within(other.more.as_slice(), further::of(&self.more, component))
+    }
+}
+
+impl NumberedSet {
+    ghost use Rattle.std.specs.Prelude.{◌≡◌, ◌==◌};
+    ghost use Rattle.numbered_sets.specs.Numbers.{other_numbers};
+
+    /// Whether each number is one of another set.
+    pub fn is_within(&self, other: &NumberedSet) -> bool
+        ensures { result ≡ ((other_numbers self.now other.now).bits == 0) }
+    {
+        words::are_two_words(self.low, self.high);
+        words::are_two_words(other.low, other.high);
+        if words::without(self.low, other.low) != 0 {
+            return false;
+        }
+        if words::without(self.high, other.high) != 0 {
+            return false;
+        }
+        are_within(self.more.as_slice(), other.more.as_slice())
     }
 }
 

@@ -1,9 +1,8 @@
 -- A numbering that grew, and what is known of numbers in it.
-use Rattle.std.proofs.Common.{◌≡◌, ◌∙◌, List, refl, sym, subst}
+use Rattle.std.proofs.Common.{◌∙◌, refl, sym, subst}
 use Rattle.osek_standard.specs.{declared.{app.App.{App}, point.Point.{Point}}, Points.{IsPoint}}
-use Rattle.abstract_state.specs.declared.table.PlainEntry.{PlainEntry}
 use Rattle.flow_model.specs.Effects.{AreAllAllowed}
-use Rattle.numbered_sets.specs.{declared.numbered_entry.NumberedEntry.{NumberedEntry}, Pools.{Values, IsLonger}, Views.{plain_entry}}
+use Rattle.numbered_sets.specs.{declared.numbered_entry.NumberedEntry.{NumberedEntry}, Views.{plain_entry}}
 use Rattle.numbered_sets.proofs.{NumberingLaws.{longer_itself, longer_onward}, ViewLaws.{same_view, still_known}}
 use Rattle.point_exits.specs.{declared.numbering.Numbering.{Numbering}, Growing.{IsGrown}, PointNumbers.{AreNumbersAt}}
 

@@ -82,14 +82,10 @@ fn passing_ends(
     ensures same { pool.new ≡ pool.old }
     ensures ends { IfOk result (ArePassingEnds pool.old before.now conditions.now target) }
 {
-    let mut entry = before.copy(alloc)?;
-    let mut ends = Seq::new(alloc);
+    let mut ends = Seq::of(Vec::with_capacity(alloc, conditions.len())?);
     for condition in conditions.as_slice() {
         let component = condition.component.index();
-        let own = entry.sets.set(alloc, component)?;
-        pool.keep_passing(alloc, component, &condition.test, &mut entry)?;
-        let numbers = entry.sets.set(alloc, component)?;
-        entry.sets.put(component, &own)?;
+        let numbers = pool.passing(alloc, component, &condition.test, before)?;
         if !numbers.is_empty() {
             ends.push(NumberEnd {
                 component,

@@ -1,5 +1,5 @@
 -- Cells of numbered entries: what may be joined to them, and that they stay as the pool grows.
-use Rattle.std.proofs.Common.{◌≡◌, ℕ, ◌+◌, ◌<◌, ◌≤◌, false, Option, None, List, [], ◌∷◌, length, get_or, set, map, refl, sym, ap, ap₂, subst, ◌∙◌, inl, inr, arith, All}
+use Rattle.std.proofs.Common.{◌≡◌, ℕ, ◌+◌, ◌<◌, false, Option, None, List, [], ◌∷◌, length, get_or, set, map, refl, sym, ap, ap₂, subst, ◌∙◌, inl, inr, arith, All}
 use Rattle.std.specs.{Prelude.{option_map, Contains}, Option.{ForSome}}
 use Rattle.std.proofs.lemmas.List.{length-map, map-set, get_or-map}
 use Rattle.osek_standard.specs.declared.{app.App.{App}, point.Point.{Point}}

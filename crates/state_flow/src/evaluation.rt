@@ -26,6 +26,24 @@ pub fn turn(
     ensures grown { IsGrown numbering.old numbering.new }
     ensures progress { OnOk result ((n : ℕ) → HasProgress numbering.old.app.now numbering.old.pool cells.old.items n → HasProgress numbering.old.app.now numbering.new.pool cells.new.items (n + 1)) }
 {
+    // what updates make of large sets is kept for each point
+    numbering.pool.turn_to(cells[place].number);
+    evaluate_point(alloc, numbering, cells, place)
+}
+
+// evaluates a point that waits
+fn evaluate_point(
+    alloc: Global,
+    numbering: &mut Numbering,
+    cells: &mut Vec<Cell<NumberedEntry>>,
+    place: usize,
+) -> Result<(), Memory>
+    requires masks { HasMasks numbering.old.app.now }
+    requires cells { AreNumberedCells numbering.old.app.now numbering.old.pool cells.old.items }
+    requires waits { IsWaitingCell cells.old.items place }
+    ensures grown { IsGrown numbering.old numbering.new }
+    ensures progress { OnOk result ((n : ℕ) → HasProgress numbering.old.app.now numbering.old.pool cells.old.items n → HasProgress numbering.old.app.now numbering.new.pool cells.new.items (n + 1)) }
+{
     if grow_by_few(numbering.app) {
         evaluate_news(alloc, numbering, cells, place)
     } else {

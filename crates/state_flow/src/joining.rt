@@ -88,7 +88,7 @@ fn join_with(
     requires cells { AreNumberedCells app.now pool.now cells.old.items }
     ensures { OnOk result (AreRowsJoined app.now pool.now cells.old.items (rows_with pool.now entry ends.now) cells.new.items) }
 {
-    if let Some(target) = joined_target(ends, &entry, pool) {
+    if let Some(target) = joined_target(ends, &entry) {
         masks_are_few(app);
         return put_in(alloc, app, pool, cells, target, &entry);
     }
@@ -124,9 +124,7 @@ fn join_end(
 
 // The point where all ends lead, if they have numbers of different components: each has all numbers of the others, so that their
 // join is the entry.
-fn joined_target(ends: &[NumberEnd], entry: &NumberedEntry, pool: &Pool) -> Option<Point>
-    requires known { AreNumbersOf pool.now entry.now }
-    requires ends { (x : NumberEnd) → Contains ends.now x → IsKnownEnd pool.now entry.now x }
+fn joined_target(ends: &[NumberEnd], entry: &NumberedEntry) -> Option<Point>
     ensures { IfSome result (AreTogether entry.now ends.now) }
 {
     if ends.len() < 2 || ends[0].component == ends[1].component {
@@ -135,7 +133,7 @@ fn joined_target(ends: &[NumberEnd], entry: &NumberedEntry, pool: &Pool) -> Opti
     let target = ends[0].target;
     for end in ends {
         let leads_there = end.target == target;
-        if !leads_there || !is_part(end, entry, pool) {
+        if !leads_there || !is_part(end, entry) {
             return None;
         }
     }
@@ -143,18 +141,8 @@ fn joined_target(ends: &[NumberEnd], entry: &NumberedEntry, pool: &Pool) -> Opti
 }
 
 // whether each number of an end is one of the entry's
-fn is_part(end: &NumberEnd, entry: &NumberedEntry, pool: &Pool) -> bool
-    requires known { AreNumbersOf pool.now entry.now }
-    requires end { IsKnownEnd pool.now entry.now end.now }
+fn is_part(end: &NumberEnd, entry: &NumberedEntry) -> bool
     ensures { OnTrue result (IsPart entry.now end.now) }
 {
-    let count = pool.len(end.component);
-    let mut number = end.numbers.next(0, count);
-    while number < count {
-        if !entry.sets.has(end.component, number) {
-            return false;
-        }
-        number = end.numbers.next(number + 1, count);
-    }
-    true
+    entry.sets.has_each(end.component, &end.numbers)
 }

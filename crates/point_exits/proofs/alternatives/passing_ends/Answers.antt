@@ -1,81 +1,40 @@
 use Rattle.std.proofs.Common.{◌≤◌, List, length, take, refl, sym, ap, subst, ◌∙◌, arith}
 use Rattle.std.specs.Prelude.{Contains}
 use Rattle.std.proofs.lemmas.Bool.{eqb-true}
-use Rattle.std.proofs.lemmas.List.{length-set}
 use Rattle.flow_model.specs.declared.test.Condition.{Condition}
-use Rattle.numbered_sets.specs.{declared.numbered_entry.NumberedEntry.{NumberedEntry}, NumberedEntries.{numbers_at}, Pools.{Values}}
+use Rattle.numbered_sets.specs.Pools.{Values}
 use Rattle.point_exits.specs.Alternatives.{IsSiftedFor, ArePassingEnds}
-use Rattle.point_exits.proofs.{BlockLaws.{pool_has}, HeldNumbers.{held_back}, SetValues.{some_left}, PassingEnds.{sifted_for, no_condition, end_more, no_end, all_asked}}
+use Rattle.point_exits.proofs.{BlockLaws.{pool_has}, SetValues.{some_left}, PassingEnds.{sifted_for, no_condition, end_more, no_end, all_asked}}
 use Rattle.point_exits.proofs.alternatives.passing_ends.Goals as goal
 use Rattle.point_exits.proofs.alternatives.passing_ends.Goals.{then-not-is_empty+in_ok-push, else-not-is_empty}
 
 pub loop-condition-init : goal.loop-condition-init
 loop-condition-init c = record {
-  entry = c.in_ok-entry.ensures;
   pool = refl;
-  ends = no_condition c.args.pool.now c.args.before.now c.args.target c.as_slice-condition-items.result.now c.new-ends.result c.new-ends.ensures;
+  ends = no_condition c.args.pool.now c.args.before.now c.args.target c.as_slice-condition-items.result.now c.of-ends.result (c.of-ends.ensures ∙ c.in_ok-with_capacity.ensures.items);
 }
 
-pub set-requires : goal.set-requires
-set-requires c =
-    let y = c.condition-item.result in
-    let listed : Contains c.args.conditions.now y =
-    subst (λ (ys : List Condition). Contains ys y) c.as_slice-condition-items.ensures (c.loop-condition.condition-index, c.loop-condition-test.true, sym c.condition-item.is) in
-    let lt = c.requires.known y listed in
-    omega (arith, lt, c.index-component.ensures, ap (λ (e : NumberedEntry). length e.sets) c.loop-condition.invariant.entry)
-
-pub keep_passing-requires-clause-known : goal.keep_passing-requires-clause-known
-keep_passing-requires-clause-known c =
+pub passing-requires-clause-known : goal.passing-requires-clause-known
+passing-requires-clause-known c =
     let y = c.condition-item.result in
     let listed : Contains c.args.conditions.now y =
     subst (λ (ys : List Condition). Contains ys y) c.as_slice-condition-items.ensures (c.loop-condition.condition-index, c.loop-condition-test.true, sym c.condition-item.is) in
     let there = pool_has c.args.pool.now c.args.before.now y.component.0 c.index-component.result c.requires.numbers (c.requires.known y listed) c.index-component.ensures in
     omega (arith, there, ap (λ (q : List Values). length q) c.loop-condition.invariant.pool)
 
-pub keep_passing-requires-clause-set : goal.keep_passing-requires-clause-set
-keep_passing-requires-clause-set c =
+pub passing-requires-clause-set : goal.passing-requires-clause-set
+passing-requires-clause-set c =
     let y = c.condition-item.result in
     let listed : Contains c.args.conditions.now y =
     subst (λ (ys : List Condition). Contains ys y) c.as_slice-condition-items.ensures (c.loop-condition.condition-index, c.loop-condition-test.true, sym c.condition-item.is) in
     let lt = c.requires.known y listed in
-    omega (arith, lt, c.index-component.ensures, ap (λ (e : NumberedEntry). length e.sets) c.loop-condition.invariant.entry)
-
-pub set-requires-in-loop-condition : goal.set-requires-in-loop-condition
-set-requires-in-loop-condition c =
-    let y = c.condition-item.result in
-    let listed : Contains c.args.conditions.now y =
-    subst (λ (ys : List Condition). Contains ys y) c.as_slice-condition-items.ensures (c.loop-condition.condition-index, c.loop-condition-test.true, sym c.condition-item.is) in
-    let lt = c.requires.known y listed in
-    let k = c.index-component.result in
-    let others = c.in_ok-keep_passing.ensures.others in
-    let same = ap (λ (e : NumberedEntry). length e.sets) c.loop-condition.invariant.entry in
-    omega (arith, lt, c.index-component.ensures, same, ap length others, length-set c.loop-condition.entry.sets k (numbers_at c.keep_passing.new.entry k))
-
-pub put-requires-clause-known : goal.put-requires-clause-known
-put-requires-clause-known c =
-    let y = c.condition-item.result in
-    let listed : Contains c.args.conditions.now y =
-    subst (λ (ys : List Condition). Contains ys y) c.as_slice-condition-items.ensures (c.loop-condition.condition-index, c.loop-condition-test.true, sym c.condition-item.is) in
-    let lt = c.requires.known y listed in
-    let k = c.index-component.result in
-    let others = c.in_ok-keep_passing.ensures.others in
-    let same = ap (λ (e : NumberedEntry). length e.sets) c.loop-condition.invariant.entry in
-    omega (arith, lt, c.index-component.ensures, same, ap length others, length-set c.loop-condition.entry.sets k (numbers_at c.keep_passing.new.entry k))
-
-pub returns-in_err-own-clause-same : goal.returns-in_err-own-clause-same
-returns-in_err-own-clause-same c = c.loop-condition.invariant.pool
-
-pub returns-in_err-keep_passing-clause-same : goal.returns-in_err-keep_passing-clause-same
-returns-in_err-keep_passing-clause-same c = c.keep_passing.ensures.same ∙ c.loop-condition.invariant.pool
+    omega (arith, lt, c.index-component.ensures)
 
 pub returns-in_err-numbers-clause-same : goal.returns-in_err-numbers-clause-same
-returns-in_err-numbers-clause-same c = c.keep_passing.ensures.same ∙ c.loop-condition.invariant.pool
-
-pub returns-in_err-put-clause-same : goal.returns-in_err-put-clause-same
-returns-in_err-put-clause-same c = c.keep_passing.ensures.same ∙ c.loop-condition.invariant.pool
+returns-in_err-numbers-clause-same c = c.passing.ensures.same ∙ c.loop-condition.invariant.pool
 
 pub returns-in_err-push-clause-same : goal.returns-in_err-push-clause-same
-returns-in_err-push-clause-same c = c.keep_passing.ensures.same ∙ c.loop-condition.invariant.pool
+returns-in_err-push-clause-same c = c.passing.ensures.same ∙ c.loop-condition.invariant.pool
 
 pub loop-condition-preserved : goal.loop-condition-preserved
 loop-condition-preserved c =
@@ -86,16 +45,12 @@ loop-condition-preserved c =
     let i = c.loop-condition.condition-index in
     let k = c.index-component.result in
     let items = c.as_slice-condition-items.result.now in
-    let held = c.loop-condition.entry in
     let n = c.in_ok-numbers.numbers in
     let p = c.args.target in
     let sifted : IsSiftedFor pool entry y n =
-    sifted_for pool c.loop-condition.pool entry held y k n (numbers_at c.keep_passing.new.entry k) inv.pool inv.entry c.index-component.ensures c.in_ok-numbers.ensures
-    c.in_ok-keep_passing.ensures.passing in
+    sifted_for pool c.loop-condition.pool entry entry y k n n inv.pool refl c.index-component.ensures refl c.in_ok-numbers.ensures.passing in
     record {
-      entry = held_back held c.keep_passing.new.entry k (numbers_at c.keep_passing.new.entry k) c.in_ok-keep_passing.ensures.others (record { sets = c.put.new.self }) c.in_ok-own.own
-          c.in_ok-own.ensures c.in_ok-put.ensures.sets ∙ inv.entry;
-      pool = c.keep_passing.ensures.same ∙ inv.pool;
+      pool = c.passing.ensures.same ∙ inv.pool;
       ends = elim c.if-not-is_empty.branch [
         | then-not-is_empty+in_ok-push w ↦
             end_more pool entry p items i y c.loop-condition-test.true (sym c.condition-item.is) c.loop-condition.ends inv.ends

@@ -4,9 +4,6 @@ use Rattle.point_exits.specs.declared.group.NumberEnd.{NumberEnd}
 use Rattle.state_flow.specs.ExitRows.{IsPart}
 use Rattle.state_flow.proofs.joining.joined_target.Goals as goal
 
-pub is_part-requires-clause-end : goal.is_part-requires-clause-end
-is_part-requires-clause-end c = c.requires.ends c.end-item.result (c.loop-end.end-index, c.loop-end-test.true, sym c.end-item.is)
-
 pub loop-end-preserved : goal.loop-end-preserved
 loop-end-preserved c = λ j d lt.
     let items = c.args.ends.now in

@@ -1,6 +1,6 @@
 use Rattle.std.proofs.Common.{sym, subst, ◌∙◌, arith}
-use Rattle.numbered_sets.specs.{Judging.{AreJudgedTests}, Pools.{Values, value_seen, IsNumberOf, AreValues}}
-use Rattle.numbered_sets.proofs.{JudgedLaws.{judged_longer}, PoolLaws.{few_values, seen_already}, ViewLaws.{extended_with}}
+use Rattle.numbered_sets.specs.{Judging.{AreJudgedTests}, Keeping.{AreMadeSets}, Pools.{Values, value_seen, IsNumberOf, AreValues}}
+use Rattle.numbered_sets.proofs.{JudgedLaws.{judged_longer}, KeptLaws.{kept_longer}, PoolLaws.{few_values, seen_already}, ViewLaws.{extended_with}}
 use Rattle.numbered_sets.proofs.shared_values.SharedValues.number.Goals as goal
 
 pub returns-in-Some-clause-values : goal.returns-in-Some-clause-values
@@ -20,12 +20,16 @@ returns-in-Some-clause-below c =
 
 pub invariant_of-self-in_err-number : goal.invariant_of-self-in_err-number
 invariant_of-self-in_err-number c =
-    subst (λ (x : Values). AreJudgedTests x.values c.self-2.inside.judged.tests) (sym (c.in_err-number.ensures.err ∙ c.in-Some-get_mut.ensures.value)) c.self-2.invariant
+    subst (λ (x : Values). AreJudgedTests x.values c.self-2.inside.judged.tests × AreMadeSets x.values c.self-2.inside.kept.sets) (sym (c.in_err-number.ensures.err ∙ c.in-Some-get_mut.ensures.value)) c.self-2.invariant
 
 pub invariant_of-self-2 : goal.invariant_of-self-2
 invariant_of-self-2 c =
-    let was = c.self-2.inside.seen.value in
     let tests = c.self-2.inside.judged.tests in
-    let own : AreJudgedTests c.in-Some-get_mut.own.now.values tests = subst (λ (x : Values). AreJudgedTests x.values tests) (sym c.in-Some-get_mut.ensures.value) c.self-2.invariant in
-    subst (λ (x : Values). AreJudgedTests x.values tests) (sym c.in_ok-number.ensures.values)
-    (judged_longer c.in-Some-get_mut.own.now.values (value_seen c.in-Some-get_mut.own.now c.args.value.now).values tests (extended_with c.in-Some-get_mut.own.now.values c.args.value.now) own)
+    let sets = c.self-2.inside.kept.sets in
+    let was = c.in-Some-get_mut.own.now in
+    let now = value_seen was c.args.value.now in
+    let own : AreJudgedTests was.values tests × AreMadeSets was.values sets =
+    subst (λ (x : Values). AreJudgedTests x.values tests × AreMadeSets x.values sets) (sym c.in-Some-get_mut.ensures.value) c.self-2.invariant in
+    let grown = extended_with was.values c.args.value.now in
+    subst (λ (x : Values). AreJudgedTests x.values tests × AreMadeSets x.values sets) (sym c.in_ok-number.ensures.values)
+    (judged_longer was.values now.values tests grown own.0, kept_longer was.values now.values sets grown own.1)

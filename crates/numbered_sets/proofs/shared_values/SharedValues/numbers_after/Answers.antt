@@ -1,11 +1,11 @@
 use Rattle.std.proofs.Common.{sym, subst}
-use Rattle.numbered_sets.specs.{Judging.{AreJudgedTests}, Pools.{Values}}
-use Rattle.numbered_sets.proofs.JudgedLaws.{judged_longer}
+use Rattle.numbered_sets.specs.declared.made_sets.MadeSets.{MadeSets}
+use Rattle.numbered_sets.specs.{Keeping.{AreMadeSets}, Pools.{Values}}
 use Rattle.numbered_sets.proofs.shared_values.SharedValues.numbers_after.Goals as goal
 
+pub moved_since-requires-clause-kept : goal.moved_since-requires-clause-kept
+moved_since-requires-clause-kept c =
+    subst (λ (kept : MadeSets). AreMadeSets c.self.inside.seen.value.values kept.sets) (sym c.replace-kept.ensures.value) c.self.invariant.1
+
 pub invariant_of-self-2 : goal.invariant_of-self-2
-invariant_of-self-2 c =
-    let own = c.in-Some-get_mut.own.now in
-    let tests = c.self-2.inside.judged.tests in
-    judged_longer own.values c.numbers_after.new.self.values tests c.numbers_after.ensures.grown
-    (subst (λ (x : Values). AreJudgedTests x.values tests) (sym c.in-Some-get_mut.ensures.value) c.self-2.invariant)
+invariant_of-self-2 c = (c.self-2.invariant.0, subst (λ (x : Values). AreMadeSets x.values c.moved_since.new.kept.sets) (sym c.self-2.view_is) c.in_ok-made.ensures.kept)

@@ -1,4 +1,4 @@
-use Rattle.std.proofs.Common.{◌∙◌, ℕ, refl, ap, subst}
+use Rattle.std.proofs.Common.{◌∙◌, ℕ, ap, subst}
 use Rattle.std.specs.{Prelude.{IfSome}, declared.option.Option.{Option}}
 use Rattle.numbered_sets.proofs.NumberingLaws.{longer_itself}
 use Rattle.point_exits.specs.{declared.arrivals.ArrivalsOver.{ArrivalsOver}, Arrivals.{AreArrivalsAt}}

@@ -1,0 +1,24 @@
+use Rattle.std.proofs.Common.{◌≡◌, length, ap, ap₂, ◌∙◌, arith}
+use Rattle.std.specs.{Prelude.{bit_or}, Vec.{with_items}}
+use Rattle.std.proofs.lemmas.List.{with_items_is}
+use Rattle.bit_words.specs.Words.{bits_of_words}
+use Rattle.bit_words.proofs.FirstWords.{either_two}
+use Rattle.numbered_sets.specs.Numbers.{Numbers, numbers}
+use Rattle.numbered_sets.proofs.numbered_set.NumberedSet.join.Goals as goal
+
+pub returns : goal.returns
+returns c =
+    let a = c.self.inside.low in
+    let b = c.self.inside.high in
+    let ws = c.self.inside.more.items in
+    let x = c.other.inside.low in
+    let y = c.other.inside.high in
+    let us = c.other.inside.more.items in
+    let wide = c.widen.new.words in
+    let long : length c.join_words.new.words ≡ wide.len = omega (arith, c.join_words.auto.words, c.as_mut_slice.ensures.len) in
+    let rest : bits_of_words (with_items wide c.join_words.new.words).items ≡ bit_or (bits_of_words ws) (bits_of_words us) =
+    ap bits_of_words (with_items_is wide c.join_words.new.words long) ∙ c.join_words.ensures
+    ∙ ap₂ bit_or (ap bits_of_words c.as_mut_slice.ensures.value ∙ c.in_ok-widen.ensures.same) (ap bits_of_words c.as_slice.ensures.value) in
+    ap (numbers c.self.inside.domain)
+    (either_two a b x y ws us (with_items wide c.join_words.new.words).items c.are_two_words.ensures.low c.are_two_words.ensures.high c.are_two_words-2.ensures.low c.are_two_words-2.ensures.high rest)
+    ∙ ap₂ (λ (m n : Numbers). numbers m.domain (bit_or m.bits n.bits)) c.self.view_is c.other.view_is
