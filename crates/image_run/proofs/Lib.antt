@@ -7,4 +7,5 @@ pub mod SiteLines
 pub mod UndoLaws
 pub mod QuietSteps
 pub mod TraplessSites
+pub mod FewSteps
 pub mod InsideSteps

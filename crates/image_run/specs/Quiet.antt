@@ -1,8 +1,8 @@
--- Steps after which a line of the trace shows of the tasks what the line before showed.
-use Rattle.std.specs.Prelude.{◌≡◌, ⊤, Bool, true, false, not, ℕ, None, is_some}
-use Rattle.osek_values.specs.declared.event.Event.{Event, TheVariants.{Run, Irq, Tick}}
+-- Steps after which a line of the trace shows of the tasks, or of all but few, what the line before showed.
+use Rattle.std.specs.{Prelude.{◌≡◌, ⊤, Bool, true, false, not, ℕ, None, is_some}, declared.option.Option.{Option}}
+use Rattle.osek_values.specs.declared.{event.Event.{Event, TheVariants.{Run, Irq, Tick}}, numbers.TaskNo.{TaskNo}}
 use Rattle.osek_standard.specs.declared.{app.App.{App}, block.Kind.{Kind}, state.{State.{State}, Processor.{Processor}}}
-use Rattle.osek_standard.specs.{Apps.{the_block}, TaskStates.{is_inside}, States.{alarm_state, here, nowhere, task_of, task_state}, Internal.{internal_of}, Effects.{task_at}, Services.{due, is_due_at, value_of}}
+use Rattle.osek_standard.specs.{Apps.{the_block}, TaskStates.{is_inside}, States.{alarm_state, here, is_that_task, nowhere, task_of, task_state}, Internal.{internal_of}, Effects.{task_at}, Services.{due, is_due_at, value_of}}
 use Rattle.image_model.specs.{declared.image.Image.{Image}, ImageStep.{site_at}}
 use Rattle.image_model.specs.CallNames as call
 use Rattle.osek_standard.specs.declared.block.Kind.TheVariants as kind
@@ -12,6 +12,11 @@ use Rattle.osek_standard.specs.declared.state.Processor.TheVariants as processor
 pub record KeepsTasks (s r : State) : Type 0 where
   pub current : task_of r.processor ≡ task_of s.processor
   pub tasks : (t : ℕ) → task_at (task_state r t) nowhere ≡ task_at (task_state s t) nowhere
+
+-- each task is as it was, but for the one that ran or was interrupted, this one, and the one that runs or is interrupted now
+abbrev pub ChangesFew : Option TaskNo → State → State → Type 0
+ChangesFew x s r =
+    (t : ℕ) → is_that_task (task_of s.processor) t ≡ false → is_that_task x t ≡ false → is_that_task (task_of r.processor) t ≡ false → task_state r t ≡ task_state s t
 
 -- at a block of this kind an instruction leaves each task as it is but for its place, and asks for no rescheduling: an
 -- alarm that isn't due does nothing

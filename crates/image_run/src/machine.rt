@@ -1,16 +1,17 @@
 //! The machine.
-ghost use Rattle.std.specs.Prelude.{◌≡◌, ◌+◌, ◌<◌, ◌≤◌, length, true, false, IfOk, Some};
+ghost use Rattle.std.specs.Prelude.{◌≡◌, ◌+◌, ◌<◌, ◌≤◌, length, true, false, IfOk, IfSome, Some};
+ghost use Rattle.osek_values.specs.declared.event.Event.{Event as AnEvent};
 ghost use Rattle.osek_standard.specs.{Dispatch.{Stepped, stepped}, Internal.{IsInside}, Kernel.{start as start_of}, Well.{Well}, Apps.{IsDeclared}};
 ghost use Rattle.image_model.specs.ImageStep.{image_step as image_step_of};
-ghost use Rattle.image_run.specs.{Machines.{at_work, turn, turned, noted}, Noted.{noted_if}, Quiet.{KeepsTasks}, Scans.{most_scans}};
+ghost use Rattle.image_run.specs.{Machines.{at_work, turn, turned, noted}, Noted.{noted_if}, Quiet.{ChangesFew, KeepsTasks}, Scans.{most_scans}};
 
 use crate::instruction::image_step;
-use crate::quiet::runs_quietly;
+use crate::quiet::{named_task, runs_quietly};
 use crate::trap::Trap;
 use generic_kernel::{Ready, nothing, start};
 use image_model::Image;
 use osek_standard::{App, State};
-use osek_values::{Event, Memory, ModeNo, Notes, Steps};
+use osek_values::{Event, Memory, ModeNo, Notes, Steps, TaskNo};
 use std::alloc::Global;
 use std::marker::Model;
 use std::sync::ledger::Ledger;
@@ -109,6 +110,7 @@ impl Machine {
     /// Whether the next step is known to change of no task more than its place, and to leave who runs or is interrupted: a
     /// source latches, a routine begins, or an instruction moves on and changes at most counters and alarms beside. It may say
     /// no where that is so.
+    #[inline(always)]
     pub fn is_quiet(&self, event: Event) -> bool
         requires { IsDeclared self.now.image.app event }
         ensures { (r : Stepped) → result ≡ true → image_step_of self.now.image self.now.state event ≡ Some r → KeepsTasks self.now.state r.state }
@@ -117,6 +119,16 @@ impl Machine {
             Event::Irq(_) | Event::Tick(_) => true,
             Event::Run(_) => runs_quietly(&self.image, &self.state),
         }
+    }
+
+    /// The task that the next step may change beside the one that runs or is interrupted before it and the one that does
+    /// after it, if there is one more.
+    #[inline(always)]
+    pub fn named(&self) -> Option<TaskNo>
+        ensures changes { (e : AnEvent) → (r : Stepped) → image_step_of self.now.image self.now.state e ≡ Some r → ChangesFew result self.now.state r.state }
+        ensures known { IfSome result (λ t. t.0 < length self.now.image.app.tasks) }
+    {
+        named_task(&self.image, &self.state)
     }
 
     /// The state now.

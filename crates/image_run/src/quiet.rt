@@ -1,12 +1,13 @@
-//! Steps after which a line of the trace shows of the tasks what the line before showed.
-ghost use Rattle.std.specs.Prelude.{◌≡◌, ◌<◌, length, true};
+//! Steps after which a line of the trace shows of the tasks, or of all but few, what the line before showed.
+ghost use Rattle.std.specs.Prelude.{◌≡◌, ◌<◌, length, true, IfSome};
 ghost use Rattle.osek_standard.specs.{Apps.{tables, the_block}, States.{alarm_state, here as here_of}, Services.{due, is_due_at, value_of}, Validity.{NamesEntries}, Well.{Well, IsActive}};
+ghost use Rattle.generic_kernel.specs.Changes.{named_here as named_here_of};
 ghost use Rattle.image_run.specs.Quiet.{IsQuietAt, IsQuietHere, IsSettled, leaves_tasks as leaves_tasks_at};
 
-use generic_kernel::here;
+use generic_kernel::{here, named_here};
 use image_model::{Image, site_at};
 use osek_standard::{AlarmState, App, Call, Kind, PlainService, Processor, State, TaskService};
-use osek_values::AlarmNo;
+use osek_values::{AlarmNo, TaskNo};
 
 /// Whether an alarm is due.
 fn is_due(app: &App, state: &State, alarm: AlarmNo) -> bool
@@ -77,5 +78,17 @@ pub fn runs_quietly(image: &Image, state: &State) -> bool
     match state.processor {
         Processor::Halted | Processor::Idle => true,
         Processor::Running(_) | Processor::Interrupted { .. } => is_quiet_here(image, state),
+    }
+}
+
+/// The task that the instruction names which is due, if one is due and names one.
+pub fn named_task(image: &Image, state: &State) -> Option<TaskNo>
+    requires { Well image.now.app state.now }
+    ensures named { IsActive state.now.processor → result ≡ named_here_of image.now.app state.now }
+    ensures known { IfSome result (λ t. t.0 < length image.now.app.tasks) }
+{
+    match state.processor {
+        Processor::Halted | Processor::Idle => None,
+        Processor::Running(_) | Processor::Interrupted { .. } => named_here(&image.app, state),
     }
 }
