@@ -7,7 +7,7 @@ use Rattle.std.proofs.lemmas.List.{take_at, drop_at, set_split, set-get_or, leng
 use Rattle.std.proofs.lemmas.List.{drop_more, drop_all, take_all, get_or-take, get_or_push, get_or_append_left, length_push}
 use Rattle.osek_standard.specs.{declared.{app.App.{App}, objects.Task.{Task}, state.State.{State}}, Apps.{the_task, no_task}, TraceText.{task_text}}
 use Rattle.trace_text.specs.declared.shown.{KeptTask.{KeptTask}}
-use Rattle.trace_text.specs.LineParts.{shown_of, shown_text, tasks_text, not_shown, kept_text, kept_texts, kept_place, shown_before, IsKept, ShowsTask}
+use Rattle.trace_text.specs.LineParts.{shown_of, shown_text, tasks_text, not_shown, kept_text, kept_texts, kept_place, IsKept, ShowsAll}
 use Rattle.trace_text.proofs.ShownLaws.{text_of_shown}
 
 abbrev pub size_of : KeptTask → ℕ
@@ -154,35 +154,26 @@ module _ (app : App) where
         ap (λ (l : List ℕ). l ++ rest_text (t + 1)) is ∙ append_assoc text (task_text app s (t, the_task app t)) (rest_text (t + 1))
         ∙ ap (λ (l : List ℕ). text ++ l) (sym (rest_more t within)) ∙ before
 
-    pub none_left : (t : ℕ) (text : List ℕ) → length app.tasks ≤ t → text ++ rest_text t ≡ tasks_text app s → text ≡ tasks_text app s
+    none_left : (t : ℕ) (text : List ℕ) → length app.tasks ≤ t → text ++ rest_text t ≡ tasks_text app s → text ≡ tasks_text app s
     none_left t text end before =
         sym (append-nil text) ∙ ap (λ (l : List ℕ). text ++ l) (sym (ap (λ (ds : List Task). flat_map (task_text app s) (enumerate_from t ds))
         (drop_all t app.tasks end))) ∙ before
 
-    pub shown_more : (ks ls : List KeptTask) (t : ℕ) → t < length app.tasks → length ls ≡ length app.tasks → ShowsTask ks ls t (shown_of s t) →
-        kept_texts app 0 (take t ks) ++ rest_text t ≡ tasks_text app s → kept_texts app 0 (take (t + 1) ls) ++ rest_text (t + 1) ≡ tasks_text app s
-    shown_more ks ls t within whole shows before =
-        let here : t < length ls = omega (arith, within, whole) in
-        let x = get_or ls t not_shown in
-        let size : length (take t ks) ≡ t = ap (λ (l : List KeptTask). length l) (sym shows.before) ∙ length-take-le t ls (omega (arith, here)) in
-        let more : take (t + 1) ls ≡ take t ks ++ x ∷ [] = take_more ls t not_shown here ∙ ap (λ (l : List KeptTask). l ++ x ∷ []) shows.before in
-        one_more t (kept_texts app 0 (take t ks)) (kept_texts app 0 (take (t + 1) ls)) within
-        (ap (kept_texts app 0) more ∙ push_texts (take t ks) x t size ∙ ap (λ (l : List ℕ). kept_texts app 0 (take t ks) ++ l) (text_in s t x shows.shown))
-        before
-
     -- where the first n tasks are shown as they are, their texts and those of the rest are the whole
-    pub shown_first : (ks : List KeptTask) (n : ℕ) → n ≤ length app.tasks → length ks ≡ length app.tasks →
-        ((t : ℕ) → t < n → shown_before ks t ≡ shown_of s t) →
-        kept_texts app 0 (take n ks) ++ rest_text n ≡ tasks_text app s
-    shown_first ks zero within whole shown = refl
-    shown_first ks (suc n) within whole shown =
-        let here : n < length app.tasks = omega (arith, within) in
-        let last : shown_before ks n ≡ shown_of s n = shown n (omega arith) in
-        let before = shown_first ks n (omega (arith, within)) whole (λ t low. shown t (omega (arith, low))) in
-        let shows : ShowsTask ks ks n (shown_of s n) = record { count = refl; before = refl; shown = last } in
-        subst (λ (m : ℕ). kept_texts app 0 (take m ks) ++ rest_text m ≡ tasks_text app s) (add-one n) (shown_more ks ks n here whole shows before)
+    shown_first : (ks : List KeptTask) (n : ℕ) → n ≤ length app.tasks → ShowsAll app s ks → kept_texts app 0 (take n ks) ++ rest_text n ≡ tasks_text app s
+    shown_first ks zero within h = refl
+    shown_first ks (suc n) within h =
+        let known : n < length app.tasks = omega (arith, within) in
+        let here : n < length ks = omega (arith, known, h.count) in
+        let x = get_or ks n not_shown in
+        let more : kept_texts app 0 (take (n + 1) ks) ≡ kept_texts app 0 (take n ks) ++ task_text app s (n, the_task app n) =
+        ap (kept_texts app 0) (take_more ks n not_shown here) ∙ push_texts (take n ks) x n (length-take-le n ks (omega (arith, here)))
+        ∙ ap (λ (l : List ℕ). kept_texts app 0 (take n ks) ++ l) (text_in s n x (h.each n known)) in
+        subst (λ (m : ℕ). kept_texts app 0 (take m ks) ++ rest_text m ≡ tasks_text app s) (add-one n)
+        (one_more n (kept_texts app 0 (take n ks)) (kept_texts app 0 (take (n + 1) ks)) known more (shown_first ks n (omega (arith, within)) h))
 
-    pub all_shown : (ks : List KeptTask) (t : ℕ) → length ks ≡ length app.tasks → length app.tasks ≤ t →
-        kept_texts app 0 (take t ks) ++ rest_text t ≡ tasks_text app s → kept_texts app 0 ks ≡ tasks_text app s
-    all_shown ks t whole end before =
-        ap (kept_texts app 0) (sym (take_all t ks (omega (arith, whole, end)))) ∙ none_left t (kept_texts app 0 (take t ks)) end before
+    -- and where all are, their texts are
+    pub all_shown : (ks : List KeptTask) → ShowsAll app s ks → kept_texts app 0 ks ≡ tasks_text app s
+    all_shown ks h =
+        let n = length app.tasks in
+        ap (kept_texts app 0) (sym (take_all n ks (omega (arith, h.count)))) ∙ none_left n (kept_texts app 0 (take n ks)) (omega arith) (shown_first ks n (omega arith) h)

@@ -13,6 +13,10 @@ read_at : (xs ks : List KeptTask) (i t : ℕ) (d : KeptTask) → xs ≡ ks → i
 read_at xs ks i t d same index within =
     ap (λ (zs : List KeptTask). get_or zs i d) same ∙ ap (λ (j : ℕ). get_or ks j d) index ∙ get_or_default ks t d not_shown within
 
+-- where a text begins, by the same list and number
+pub placed : (xs ks : List KeptTask) (i t at : ℕ) → at ≡ kept_place xs i → xs ≡ ks → i ≡ t → at ≡ kept_place ks t
+placed xs ks i t at place same index = place ∙ ap (λ (zs : List KeptTask). kept_place zs i) same ∙ ap (kept_place ks) index
+
 module _ (app : App) (labels : LabelTexts) (ks : List KeptTask) (old : List ℕ) (size : ℕ) (v : LineTexts) (t at : ℕ) where
   abbrev view : LineTexts
   view = record { labels = labels; kept = ks; tasks = take size old }
@@ -23,7 +27,7 @@ module _ (app : App) (labels : LabelTexts) (ks : List KeptTask) (old : List ℕ)
     pub parts : ArePartsOf app v
     pub whole : length v.kept ≡ length app.tasks
     pub known : t < length app.tasks
-    pub place : at ≡ kept_place v.kept t
+    pub place : at ≡ kept_place ks t
     pub all : size ≡ sum_by size_of ks
 
   module _ (o : Opened) where
@@ -32,9 +36,6 @@ module _ (app : App) (labels : LabelTexts) (ks : List KeptTask) (old : List ℕ)
 
     few : length ks ≤ 16
     few = let same = ap (λ (p : LineTexts). length p.kept) o.is in omega (arith, same, o.whole, app.valid.few_tasks)
-
-    here : at ≡ kept_place ks t
-    here = o.place ∙ ap (λ (p : LineTexts). kept_place p.kept t) (sym o.is)
 
     parts : ArePartsOf app view
     parts = subst (ArePartsOf app) (sym o.is) o.parts
@@ -45,7 +46,7 @@ module _ (app : App) (labels : LabelTexts) (ks : List KeptTask) (old : List ℕ)
       next_is = ap (λ (k : KeptTask). at + k.size) (read_at xs ks i t d same index within)
 
       pub order : at + (get_or xs i d).size ≤ size
-      order = omega (arith, next_is, here, o.all, next_within ks t within)
+      order = omega (arith, next_is, o.place, o.all, next_within ks t within)
 
       module _ (s : State) (n : ℕ) (before made : List ℕ) (high : n ≤ length made) (most : n ≤ 634)
           (text : take n made ≡ take 0 before ++ task_text app s (t, the_task app t)) where
@@ -56,7 +57,7 @@ module _ (app : App) (labels : LabelTexts) (ks : List KeptTask) (old : List ℕ)
         kept_now = put_is app s t now_kept before made 0 n refl (omega arith) (omega arith) high text (omega (arith, most))
 
         pub total : at + (n + (size - (at + (get_or xs i d).size))) ≡ sum_by size_of (set ks t now_kept)
-        total = total_set ks t now_kept size at (at + (get_or xs i d).size) within o.all here next_is
+        total = total_set ks t now_kept size at (at + (get_or xs i d).size) within o.all o.place next_is
 
         pub total_few : at + (n + (size - (at + (get_or xs i d).size))) ≤ 10144
         total_few = omega (arith, total, few_anew app view parts t within now_kept kept_now few)
@@ -70,7 +71,7 @@ module _ (app : App) (labels : LabelTexts) (ks : List KeptTask) (old : List ℕ)
             let text_is = put_between old made joined new (task_text app s (t, the_task app t)) at next size n end last (omega arith) order text joined_is
             new_is in
             subst (λ (zs : List KeptTask). ArePartsOf app (record { labels = labels; kept = zs; tasks = take last new })) (sym set_is)
-            (parts_anew app view parts t within now_kept (take last new) at next kept_now here next_is
+            (parts_anew app view parts t within now_kept (take last new) at next kept_now o.place next_is
             (text_is ∙ ap (λ (l : List ℕ). take at (take size old) ++ (l ++ drop next (take size old))) (sym (text_in app s t now_kept refl))))
 
     -- and its letter is
@@ -82,10 +83,10 @@ module _ (app : App) (labels : LabelTexts) (ks : List KeptTask) (old : List ℕ)
         let same : KeepsEvents app t (get_or ks t not_shown).shown l = subst (λ (p : LineTexts). KeepsEvents app t (shown_before p.kept t) l) (sym o.is)
         keeps in
         let place : n ≡ at + length (the_task app t).name + 2 = omega (arith, n_is, ap (λ (x : List ℕ). length x) name_is) in
-        let low : n < size = omega (arith, within_text app view parts t within l same at n here place, length-take-le size old fits) in
+        let low : n < size = omega (arith, within_text app view parts t within l same at n o.place place, length-take-le size old fits) in
         let text : take size (set old n byte) ≡ set (take size old) n (letter_byte l) = take-set-lt size old n byte low
         ∙ ap (λ (b : ℕ). set (take size old) n b) byte_is in
         let set_is : ls ≡ set ks t (lettered app view parts t within l same) = ls_is
         ∙ ap (λ (m : ℕ). set ks m (kept_with_letter (get_or ks m not_shown) l)) j_is in
         subst (λ (zs : List KeptTask). ArePartsOf app (record { labels = labels; kept = zs; tasks = take size (set old n byte) })) (sym set_is)
-        (parts_lettered app view parts t within l same at n (take size (set old n byte)) here place text)
+        (parts_lettered app view parts t within l same at n (take size (set old n byte)) o.place place text)

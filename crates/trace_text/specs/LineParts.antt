@@ -1,11 +1,11 @@
 -- What the lines of a trace are put by: labels, and the text of the tasks as they were shown last.
-use Rattle.std.specs.Prelude.{◌≡◌, ℕ, ◌≤◌, ◌<◌, Bool, true, false, ◌==◌, List, [], ◌++◌, length, take, slice_index_or, if◌then◌else◌, codes, None}
+use Rattle.std.specs.{Prelude.{◌≡◌, ◌≢◌, ⊤, ℕ, ◌≤◌, ◌<◌, Bool, true, false, ◌==◌, List, [], ◌++◌, length, take, slice_index_or, if◌then◌else◌, codes, None, IfSome}, declared.option.Option.{Option}}
 use Rattle.std.specs.List.{flat_map, enumerate_from, sum_by, cons_option}
-use Rattle.osek_values.specs.{declared.status.Letter.{Letter, TheVariants.{S, Y, R, W}}, Numbers.{mask, hexadecimal}}
+use Rattle.osek_values.specs.{declared.{numbers.TaskNo.{TaskNo}, status.Letter.{Letter, TheVariants.{S, Y, R, W}}}, Numbers.{mask, hexadecimal}}
 use Rattle.osek_standard.specs.declared.{app.App.{App}, objects.Task.{Task}, state.State.{State}}
 use Rattle.osek_standard.specs.{Apps.{the_task}, TaskStates.{further, is_inside, held}, Internal.{internal_of}}
-use Rattle.osek_standard.specs.{States.{task_state, letter_of}, TraceText.{letter, further_text, resource_text, task_text, routine_text}}
-use Rattle.trace_text.specs.{declared.{shown.{Shown.{Shown}, KeptTask.{KeptTask}}, trace_line.TheConstants.{MAX_TASK}}, Labels.{LabelTexts, label_texts}}
+use Rattle.osek_standard.specs.{States.{is_that_task, task_of, task_state, letter_of}, TraceText.{letter, further_text, resource_text, task_text, routine_text}}
+use Rattle.trace_text.specs.{declared.{shown.{Shown.{Shown}, KeptTask.{KeptTask}, Unshown.{Unshown, TheVariants.{Nothing, Few, All}}}, trace_line.TheConstants.{MAX_TASK}}, Labels.{LabelTexts, label_texts}}
 
 -- what a line shows of a task
 abbrev pub shown_of : State → ℕ → Shown
@@ -92,8 +92,32 @@ pub record ArePartsOf (app : App) (p : LineTexts) : Type 0 where
   pub kept : (t : ℕ) → t < length p.kept → IsKept app t (slice_index_or p.kept t not_shown)
   pub text : p.tasks ≡ kept_texts app 0 p.kept
 
--- then this is shown of task t, and of those before it what was
+-- then this is shown of task t, and of each other one what was
 pub record ShowsTask (old new : List KeptTask) (t : ℕ) (x : Shown) : Type 0 where
   pub count : length new ≡ length old
-  pub before : take t new ≡ take t old
+  pub others : (u : ℕ) → u ≢ t → shown_before new u ≡ shown_before old u
   pub shown : shown_before new t ≡ x
+
+-- then a task, if there is one, is shown as it is in a state, and each other one as it was
+pub record ShowsOne (s : State) (x : Option TaskNo) (old new : List KeptTask) : Type 0 where
+  pub count : length new ≡ length old
+  pub others : (t : ℕ) → is_that_task x t ≡ false → shown_before new t ≡ shown_before old t
+  pub shown : (t : ℕ) → is_that_task x t ≡ true → shown_before new t ≡ shown_of s t
+
+module _ (app : App) (s : State) where
+  -- each task is shown as it is in a state
+  pub record ShowsAll (ks : List KeptTask) : Type 0 where
+    pub count : length ks ≡ length app.tasks
+    pub each : (t : ℕ) → t < length app.tasks → shown_before ks t ≡ shown_of s t
+
+  -- each is but two, and the one that runs or is interrupted
+  pub record ShowsOthers (x y : Option TaskNo) (ks : List KeptTask) : Type 0 where
+    pub count : length ks ≡ length app.tasks
+    pub one : IfSome x (λ t. t.0 < length app.tasks)
+    pub other : IfSome y (λ t. t.0 < length app.tasks)
+    pub each : (t : ℕ) → t < length app.tasks → is_that_task x t ≡ false → is_that_task y t ≡ false → is_that_task (task_of s.processor) t ≡ false → shown_before ks t ≡ shown_of s t
+
+  abbrev pub ShowsBut : Unshown → List KeptTask → Type 0
+  ShowsBut Nothing ks = ShowsAll ks
+  ShowsBut (Few x y) ks = ShowsOthers x y ks
+  ShowsBut All ks = ⊤

@@ -19,5 +19,6 @@ pub use feed::{FEED_ROOM, Feed, FeedStep};
 pub use line_parts::LineParts;
 pub use point_words::read_point;
 pub use points::{MAX_BLOCK, MAX_POINT, put_block, put_point, put_task};
+pub use shown::Unshown;
 pub use trace_line::{put_line, write_line};
 pub use trace_notes::status_name;

@@ -1,10 +1,10 @@
 //! What the lines of a trace are put by.
-ghost use Rattle.std.specs.{Prelude.{◌≡◌, ℕ, ◌<◌, ◌≤◌, ◌+◌, ◌-◌, ◌++◌, length, take, drop, slice_index_or, slice_set, decimal}, List.{sum_by}};
+ghost use Rattle.std.specs.{Prelude.{◌≡◌, ◌<◌, ◌≤◌, ◌+◌, ◌-◌, ◌++◌, length, take, drop, slice_index_or, slice_set, decimal, IfSome}, List.{sum_by}};
 ghost use Rattle.osek_standard.specs.{States.{task_of}, Well.{Well}};
-ghost use Rattle.trace_text.specs.LineParts.{ArePartsOf, ShowsTask, KeepsEvents, shown_of as what_is_shown, with_letter, shown_before, tasks_text, kept_place, kept_with_letter, not_shown};
+ghost use Rattle.trace_text.specs.LineParts.{ArePartsOf, ShowsTask, ShowsOne, ShowsAll, ShowsBut, ShowsOthers, KeepsEvents, shown_of as what_is_shown, with_letter, shown_before, tasks_text, kept_place, kept_with_letter, not_shown};
 
 use crate::labels::Labels;
-use crate::shown::{KeptTask, letter_in_place, shown_of, shown_so_far};
+use crate::shown::{KeptTask, Unshown, letter_in_place, shown_of};
 use crate::trace_line::{MAX_ALL_TASKS, put_task, put_tasks};
 use crate::trace_notes::state_mark;
 use arrayvec::ArrayVec;
@@ -108,31 +108,23 @@ impl LineParts {
         ensures parts { ArePartsOf app.now self.new }
         ensures tasks { self.new.tasks ≡ tasks_text app.now state.now }
     {
-        if self.kept.len() != app.tasks.len() {
-            self.show_anew(app, state);
-            return;
-        }
-        let current = state.current();
-        let first = shown_so_far(self.kept.as_slice(), app, state, current);
-        if first < app.tasks.len() {
-            self.show_rest(first, app, state, current);
-        }
+        self.show_anew(app, state);
     }
 
-    // Makes the text of the tasks that of a state, from a task on: those before it are shown as they are.
-    fn show_rest(&mut self, first: usize, app: &App, state: &State, current: Option<TaskNo>)
+    /// The same where it is known of which tasks the text may be another. It takes no memory.
+    #[inline(always)]
+    pub fn show_again(&mut self, app: &App, state: &State, unshown: Unshown)
         requires well { Well app.now state.now }
         requires parts { ArePartsOf app.now self.old }
-        requires whole { length self.old.kept ≡ length app.now.tasks }
-        requires known { first < length app.now.tasks }
-        requires current { current ≡ task_of state.now.processor }
-        requires shown { (t : ℕ) → t < first → shown_before self.old.kept t ≡ what_is_shown state.now t }
+        requires shown { ShowsBut app.now state.now unshown self.old.kept }
         ensures parts { ArePartsOf app.now self.new }
+        ensures shown { ShowsAll app.now state.now self.new.kept }
         ensures tasks { self.new.tasks ≡ tasks_text app.now state.now }
     {
-        let mut at = place_of(self.kept.as_slice(), first);
-        for task in first..app.tasks.len() {
-            at = self.show_task(at, app, state, current, TaskNo(task as u8));
+        match unshown {
+            Unshown::Nothing => {}
+            Unshown::Few(own, named) => self.show_few(app, state, own, named),
+            Unshown::All => self.show_anew(app, state),
         }
     }
 
@@ -141,72 +133,92 @@ impl LineParts {
         requires well { Well app.now state.now }
         requires parts { ArePartsOf app.now self.old }
         ensures parts { ArePartsOf app.now self.new }
+        ensures shown { ShowsAll app.now state.now self.new.kept }
         ensures tasks { self.new.tasks ≡ tasks_text app.now state.now }
     {
         self.kept = ArrayVec::new();
         self.size = put_tasks(&mut self.tasks, &mut self.kept, &self.labels, app, state);
     }
 
-    // Makes the text of a task that of a state, and answers the place behind it.
+    // Makes the text of two tasks, and of the one that runs or is interrupted.
+    fn show_few(&mut self, app: &App, state: &State, own: Option<TaskNo>, named: Option<TaskNo>)
+        requires well { Well app.now state.now }
+        requires parts { ArePartsOf app.now self.old }
+        requires shown { ShowsOthers app.now state.now own named self.old.kept }
+        ensures parts { ArePartsOf app.now self.new }
+        ensures shown { ShowsAll app.now state.now self.new.kept }
+    {
+        let current = state.current();
+        self.show_one(app, state, current, own);
+        if current != own {
+            self.show_one(app, state, current, current);
+        }
+        self.show_one(app, state, current, named);
+    }
+
+    // Makes the text of a task, if there is one.
     #[inline(always)]
-    fn show_task(
-        &mut self,
-        at: usize,
-        app: &App,
-        state: &State,
-        current: Option<TaskNo>,
-        task: TaskNo,
-    ) -> usize
+    fn show_one(&mut self, app: &App, state: &State, current: Option<TaskNo>, task: Option<TaskNo>)
         requires well { Well app.now state.now }
         requires parts { ArePartsOf app.now self.old }
         requires whole { length self.old.kept ≡ length app.now.tasks }
-        requires known { task.0 < length app.now.tasks }
         requires current { current ≡ task_of state.now.processor }
-        requires place { at ≡ kept_place self.old.kept task.0 }
+        requires known { IfSome task (λ t. t.0 < length app.now.tasks) }
         ensures parts { ArePartsOf app.now self.new }
-        ensures shown { ShowsTask self.old.kept self.new.kept task.0 (what_is_shown state.now task.0) }
-        ensures place { result ≡ kept_place self.new.kept (task.0 + 1) }
+        ensures shown { ShowsOne state.now task self.old.kept self.new.kept }
     {
+        let Some(task) = task else {
+            return;
+        };
         let shown = &self.kept.as_slice()[task.index()].shown;
         match letter_in_place(shown, app, state, current, task) {
-            Some(letter) => self.put_letter(at, app, task, letter),
-            None => self.put_anew(at, app, state, task),
+            Some(letter) => self.show_letter(app, task, letter),
+            None => self.put_anew(app, state, task),
         }
     }
 
-    // Puts the letter of a task into its text, where nothing else of it changes.
-    fn put_letter(&mut self, at: usize, app: &App, task: TaskNo, letter: Letter) -> usize
+    // Makes the letter of a task another, where it is another and nothing else of its text changes.
+    #[inline(always)]
+    fn show_letter(&mut self, app: &App, task: TaskNo, letter: Letter)
         requires parts { ArePartsOf app.now self.old }
         requires whole { length self.old.kept ≡ length app.now.tasks }
         requires known { task.0 < length app.now.tasks }
-        requires place { at ≡ kept_place self.old.kept task.0 }
         requires events { KeepsEvents app.now task.0 (shown_before self.old.kept task.0) letter }
         ensures parts { ArePartsOf app.now self.new }
         ensures shown { ShowsTask self.old.kept self.new.kept task.0 (with_letter (shown_before self.old.kept task.0) letter) }
-        ensures place { result ≡ kept_place self.new.kept (task.0 + 1) }
     {
-        let kept = &self.kept.as_slice()[task.index()];
-        let behind = at + kept.size;
-        if kept.shown.letter == letter {
-            return behind;
+        if self.kept.as_slice()[task.index()].shown.letter != letter {
+            self.put_letter(app, task, letter);
         }
+    }
+
+    // Puts the letter of a task into its text.
+    #[inline(never)]
+    fn put_letter(&mut self, app: &App, task: TaskNo, letter: Letter)
+        requires parts { ArePartsOf app.now self.old }
+        requires whole { length self.old.kept ≡ length app.now.tasks }
+        requires known { task.0 < length app.now.tasks }
+        requires events { KeepsEvents app.now task.0 (shown_before self.old.kept task.0) letter }
+        ensures parts { ArePartsOf app.now self.new }
+        ensures shown { ShowsTask self.old.kept self.new.kept task.0 (with_letter (shown_before self.old.kept task.0) letter) }
+    {
+        let at = place_of(self.kept.as_slice(), task.index());
         let place = at + app.task(task).name.as_bytes().len() + 2;
         self.tasks[place] = state_mark(letter)[1];
         keep_letter(&mut self.kept, task.index(), letter);
-        behind
     }
 
     // Puts the text of a task anew, and behind it what stood behind it.
-    fn put_anew(&mut self, at: usize, app: &App, state: &State, task: TaskNo) -> usize
+    #[inline(never)]
+    fn put_anew(&mut self, app: &App, state: &State, task: TaskNo)
         requires well { Well app.now state.now }
         requires parts { ArePartsOf app.now self.old }
         requires whole { length self.old.kept ≡ length app.now.tasks }
         requires known { task.0 < length app.now.tasks }
-        requires place { at ≡ kept_place self.old.kept task.0 }
         ensures parts { ArePartsOf app.now self.new }
         ensures shown { ShowsTask self.old.kept self.new.kept task.0 (what_is_shown state.now task.0) }
-        ensures place { result ≡ kept_place self.new.kept (task.0 + 1) }
     {
+        let at = place_of(self.kept.as_slice(), task.index());
         let behind = at + self.kept.as_slice()[task.index()].size;
         let size = put_task(&mut self.spare, 0, &self.labels, app, state, task);
         let end = put_part(&mut self.spare, size, &self.tasks, behind, self.size);
@@ -216,7 +228,6 @@ impl LineParts {
             size,
         };
         keep(&mut self.kept, task.index(), kept);
-        at + size
     }
 
     /// Makes the digits of a line's number ready. A line has the number that it is put with, whether they are or not; it

@@ -30,6 +30,15 @@ impl Default for Shown {
     }
 }
 
+/// Which tasks may be shown otherwise than they are.
+#[derive(Clone, Copy)]
+pub enum Unshown {
+    Nothing,
+    /// At most these two, and the one that runs or is interrupted.
+    Few(Option<TaskNo>, Option<TaskNo>),
+    All,
+}
+
 /// What was shown of a task, and how many bytes that has.
 #[derive(Drop)]
 pub(crate) struct KeptTask {
@@ -113,49 +122,6 @@ fn live_letter(current: Option<TaskNo>, task: TaskNo) -> Letter
     } else {
         Letter::Y
     }
-}
-
-// Whether a line shows a task so. It may say no where it does.
-#[inline(always)]
-fn is_as_shown(shown: &Shown, state: &State, current: Option<TaskNo>, task: usize) -> bool
-    requires known { task < length state.now.tasks }
-    requires few { task < 256 }
-    requires current { current ≡ task_of state.now.processor }
-    ensures { result ≡ true → shown.now ≡ what_is_shown state.now task }
-{
-    let task_state = state.tasks.at(task);
-    if shown.events != task_state.events {
-        return false;
-    }
-    match &task_state.activity {
-        Activity::Suspended => shown.letter == Letter::S && is_bare(shown),
-        Activity::Waiting(_) => shown.letter == Letter::W && is_bare(shown),
-        Activity::Live(standing) => {
-            let letter = live_letter(current, TaskNo(task as u8));
-            shown.letter == letter && is_live_as_shown(shown, standing)
-        }
-    }
-}
-
-/// How many of the first tasks a line shows so. It may be fewer than are.
-pub(crate) fn shown_so_far(
-    kept: &[KeptTask],
-    app: &App,
-    state: &State,
-    current: Option<TaskNo>,
-) -> usize
-    requires well { Well app.now state.now }
-    requires whole { length kept.now ≡ length app.now.tasks }
-    requires current { current ≡ task_of state.now.processor }
-    ensures within { result ≤ length app.now.tasks }
-    ensures shown { (t : ℕ) → t < result → shown_before kept.now t ≡ what_is_shown state.now t }
-{
-    for task in 0..app.tasks.len() {
-        if !is_as_shown(&kept[task].shown, state, current, task) {
-            return task;
-        }
-    }
-    app.tasks.len()
 }
 
 // The letter of a task, where all else that is shown of it is as it was.

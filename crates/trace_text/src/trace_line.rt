@@ -4,7 +4,7 @@ ghost use Rattle.osek_values.specs.declared.numbers.ResNo.{ResNo as AResource};
 ghost use Rattle.osek_standard.specs.{declared.app.App.{App}, Apps.{the_task, source_count}, Dispatch.{stepped}};
 ghost use Rattle.osek_standard.specs.{TraceText.{who, events_text, resource_text, task_text, line_text, further_text, routine_text}, Well.{Well, IsActivityOf}};
 ghost use Rattle.osek_standard.specs.{Internal.{internal_of, occupied}, States.{source_state, is_source_at}};
-ghost use Rattle.trace_text.specs.{Labels.{label_texts}, LineParts.{tasks_text, routines_text, kept_texts, not_shown, IsKept}};
+ghost use Rattle.trace_text.specs.{Labels.{label_texts}, LineParts.{tasks_text, routines_text, kept_texts, not_shown, IsKept, ShowsAll}};
 
 use crate::labels::{Labels, MAX_SOURCES};
 use crate::line_parts::LineParts;
@@ -184,6 +184,7 @@ pub(crate) fn put_tasks(
     ensures text { take result buf.new ≡ tasks_text app.now state.now }
     ensures most { result ≤ MAX_ALL_TASKS }
     ensures kept { (t : ℕ) → t < length kept.new.items → IsKept app.now t (slice_index_or kept.new.items t not_shown) }
+    ensures shown { ShowsAll app.now state.now kept.new.items }
     ensures same { take result buf.new ≡ kept_texts app.now 0 kept.new.items }
     ensures size { result ≡ sum_by (λ k. k.size) kept.new.items }
 {

@@ -1,8 +1,8 @@
 -- one more task is put behind those before it, and kept
-use Rattle.std.proofs.Common.{◌≡◌, ℕ, ◌+◌, ◌-◌, ◌<◌, ◌≤◌, List, ◌++◌, length, take, sym, ◌∙◌, ap, subst, arith, sum_by, length-append}
-use Rattle.std.proofs.lemmas.{List.{length-take-le, length_push}, List.Sums.{sum_by_push}}
+use Rattle.std.proofs.Common.{below_more, ◌∷◌, [], ◌≡◌, ℕ, ◌+◌, ◌-◌, ◌<◌, ◌≤◌, List, ◌++◌, length, take, sym, ◌∙◌, ap, subst, arith, sum_by, length-append}
+use Rattle.std.proofs.lemmas.{List.{get_or_append_left, get_or_push, length-take-le, length_push}, List.Sums.{sum_by_push}}
 use Rattle.osek_standard.specs.{Apps.{the_task}, TraceText.{task_text}}
-use Rattle.trace_text.specs.{declared.shown.KeptTask.{KeptTask}, LineParts.{IsKept, kept_texts}}
+use Rattle.trace_text.specs.{declared.shown.KeptTask.{KeptTask}, LineParts.{IsKept, kept_texts, not_shown, shown_before}}
 use Rattle.trace_text.proofs.KeptLaws.{size_of, AreKept, put_is, kept_push, push_texts, text_in, one_more}
 use Rattle.trace_text.proofs.trace_line.put_tasks.Goals as goal
 
@@ -39,8 +39,18 @@ loop-task-preserved c =
       text = one_more app s t (take at old) (take end new) within text inv.text;
       most = omega (arith, c.put_task-end.ensures.most, inv.most);
       count = ap (λ (l : List KeptTask). length l) c.push.ensures.items ∙ length_push ks y ∙ ap (λ (n : ℕ). n + 1) inv.count;
+      shown = below_more _ _
+          (λ u low. ap (λ (l : List KeptTask). shown_before l u) c.push.ensures.items
+          ∙ ap (λ (k : KeptTask). k.shown) (get_or_append_left ks (y ∷ []) not_shown u (omega (arith, low, inv.count))) ∙ inv.shown u low)
+          (ap (λ (l : List KeptTask). shown_before l t) c.push.ensures.items ∙ ap (λ (k : KeptTask). k.shown) (get_or_push ks y not_shown t inv.count) ∙ c.shown_of.ensures);
       kept = subst (AreKept app) (sym c.push.ensures.items) (kept_push app ks y inv.kept (subst (λ (n : ℕ). IsKept app n y) (sym inv.count) is));
       same = text ∙ ap (λ (l : List ℕ). l ++ task_text app s (t, the_task app t)) inv.same
           ∙ ap (λ (l : List ℕ). kept_texts app 0 ks ++ l) (sym (text_in app s t y c.shown_of.ensures)) ∙ sym (push_texts app ks y t inv.count) ∙ ap (kept_texts app 0) (sym c.push.ensures.items);
       size = omega (arith, inv.size, same, count, length-take-le at old low, length-take-le end new high, sum_by_push size_of ks y, ap (λ (l : List KeptTask). sum_by size_of l) c.push.ensures.items);
     }
+
+pub returns-clause-shown : goal.returns-clause-shown
+returns-clause-shown c =
+    let inv = c.loop-task.invariant in
+    let end : length c.args.app.now.tasks ≡ c.loop-task.task = omega (arith, c.len-task-end.ensures) in
+    record { count = inv.count ∙ sym end; each = λ t within. inv.shown t (omega (arith, within, end)) }
