@@ -2,11 +2,9 @@
 use Rattle.std.proofs.Common.{◌≡◌, ℕ, Bool, true, false, refl, sym, ◌∙◌, ap, subst, Some, None, Ok}
 use Rattle.std.specs.{Prelude.{if◌then◌else◌}, declared.{option.Option.{Option}, result.Result.{Result}}}
 use Rattle.osek_values.specs.declared.{event.Event.{Event}, notes.Notes.{Notes}}
-use Rattle.osek_standard.specs.{declared.state.State.{State}, Dispatch.{Stepped, stepped}}
+use Rattle.osek_standard.specs.{declared.{app.App.{App}, state.State.{State}}, Dispatch.{Stepped, stepped}}
 use Rattle.image_model.specs.{declared.image.Image.{Image}, ImageStep.{image_step}}
-use Rattle.image_run.specs.{Machines.{AtWork, Turn, turned, turned_by, turn}, Noted.{noted_if}, Quiet.{KeepsTasks}}
-use Rattle.trace_text.specs.LineParts.{tasks_text}
-use Rattle.command_runs.proofs.QuietLines.{same_text}
+use Rattle.image_run.specs.{Machines.{AtWork, Turn, turned, turned_by, turn}, Noted.{noted_if}}
 use Rattle.command_runs.specs.{Playing.{Given, played, line_of, HeldAnswers, AnswersEvent}, declared.{showing.Showing.{Showing, TheVariants.{Trace}}, stop.Stop.{Stop}}}
 
 -- a turn of a machine that didn't trap is a step of its image
@@ -55,8 +53,8 @@ line_put old mid new m k n j notes r given machine number h =
     (subst (λ (w : AtWork). HeldAnswers mid new (played (line_of Trace w.image n (stepped w.state notes)) (Ok tt)) r) machine
     (subst (λ (i : ℕ). HeldAnswers mid new (played (line_of Trace k.image i (stepped k.state notes)) (Ok tt)) r) number h))
 
--- after a quiet step, and after a trap, a line shows the same of the tasks
-pub same_tasks : (m new : AtWork) (o : Option Stepped) (n : Option Notes) → ((x : Stepped) → o ≡ Some x → KeepsTasks m.state x.state) → turned_by m o ≡ turned new n
-    → tasks_text m.image.app m.state ≡ tasks_text new.image.app new.state
-same_tasks m new None n quiet e = ap (λ (t : Turn). tasks_text t.machine.image.app t.machine.state) e
-same_tasks m new (Some x) n quiet e = sym (same_text m.state x.state (quiet x refl) m.image.app) ∙ ap (λ (t : Turn). tasks_text t.machine.image.app t.machine.state) e
+-- what a step keeps holds of the machine's state after it, and after a trap
+pub holds_after : (m new : AtWork) (o : Option Stepped) (n : Option Notes) (P : App → State → Type 0) → P m.image.app m.state → ((x : Stepped) → o ≡ Some x → P m.image.app x.state) →
+    turned_by m o ≡ turned new n → P new.image.app new.state
+holds_after m new None n P stays steps e = subst (λ (t : Turn). P t.machine.image.app t.machine.state) e stays
+holds_after m new (Some x) n P stays steps e = subst (λ (t : Turn). P t.machine.image.app t.machine.state) e (steps x refl)

@@ -1,11 +1,11 @@
 //! An image at work: each line of an event text as it is read, and the line that is printed of it.
 ghost use Rattle.std.specs.Prelude.{◌≡◌, ◌≤◌, ◌+◌, ◌++◌, ◌∷◌, [], ℕ, List, length, true, false, if◌then◌else◌, Some, None, OnOk, OnErr, IfErr, Err};
-ghost use Rattle.osek_standard.specs.{Apps.{IsDeclared}, Dispatch.{stepped}};
+ghost use Rattle.osek_standard.specs.{Apps.{IsDeclared}, Dispatch.{Stepped as AStep, stepped}};
 ghost use Rattle.osek_io.specs.{Counts.{Rose}, Reads.{OnlyReads}, Stored.{WritesProperPrefix}, Sunk.{sunk, Writes}};
 ghost use Rattle.image_model.specs.{ImageStep.{image_step}, ImageTrace.{trap_line}};
 ghost use Rattle.command_runs.specs.Inputs.{OfFile};
 ghost use Rattle.command_runs.specs.Playing.{played, plays, plays_fed, played_line, printing, line_of, point_line, given, MayFollow, HasNoEnd, PlaysOn, HeldAnswers, HeldReadAnswers, ReadAnswers, AnswersEvent, AnswersLine};
-ghost use Rattle.trace_text.specs.{EventWords.{read_line}, EventText.{numbered_lines}, Feeds.{no_bytes}, LineParts.{ArePartsOf, tasks_text}};
+ghost use Rattle.trace_text.specs.{EventWords.{read_line}, EventText.{numbered_lines}, Feeds.{no_bytes}, LineParts.{ArePartsOf, ShowsBut, ShowsBut-prop, tasks_text}};
 ghost use Rattle.command_runs.specs.declared.{showing.Showing.TheVariants.{Trace}, stop.Stop.TheVariants.{Trapped, Unprinted}};
 
 use crate::inputs::read_on;
@@ -21,7 +21,7 @@ use osek_io::{PutBuffer, PutError, Shelf, Sink};
 use osek_values::limits::{MAX_EVENT_LINE, MAX_EVENT_TEXT};
 use osek_values::{Event, HookSet, Notes, Steps};
 use std::sync::ledger::Ledger;
-use trace_text::{FaultyLine, Feed, FeedStep, LineParts, read_event};
+use trace_text::{FaultyLine, Feed, FeedStep, LineParts, Unshown, read_event};
 
 /// Which event and which line of its text come next, each by its number.
 #[derive(Clone, Copy)]
@@ -35,21 +35,35 @@ pub struct Place {
 pub struct Play<L: Ledger> {
     pub machine: Machine,
     pub parts: LineParts,
-    /// Whether the parts show the tasks of the state.
-    pub is_shown: bool,
+    /// Which tasks of the state the parts may show otherwise than they are.
+    pub unshown: Unshown,
     /// What is held back of what is printed.
     pub buffer: PutBuffer,
     pub place: Place,
     /// How often the machine compared priorities.
     pub scans: Steps<L>,
     ghost of_app: { ArePartsOf machine.image.app parts },
-    ghost shown: { is_shown ≡ true → parts.tasks ≡ tasks_text machine.image.app machine.state },
+    ghost shown: { ShowsBut machine.image.app machine.state unshown parts.kept } by { ShowsBut-prop machine.image.app machine.state unshown parts.kept },
     // events are no more than lines
     ghost few: { place.event ≤ place.line },
 }
 
 impl<L: Ledger> Play<L> {
-    /// Makes the parts show the tasks of the state. After a quiet step they do.
+    /// Makes the parts show the tasks of the state that they may show otherwise. It is a call of its own, since most events
+    /// leave none.
+    #[inline(never)]
+    fn show_again(&mut self)
+        ensures machine { self.new.machine ≡ self.old.machine }
+        ensures place { self.new.place ≡ self.old.place }
+        ensures buffer { self.new.buffer ≡ self.old.buffer }
+        ensures shown { self.new.parts.tasks ≡ tasks_text self.old.machine.image.app self.old.machine.state }
+    {
+        self.parts
+            .show_again(self.machine.app(), self.machine.state(), self.unshown);
+        self.unshown = Unshown::Nothing;
+    }
+
+    /// Makes the parts show the tasks of the state.
     #[inline(always)]
     fn show_tasks(&mut self)
         ensures machine { self.new.machine ≡ self.old.machine }
@@ -57,9 +71,9 @@ impl<L: Ledger> Play<L> {
         ensures buffer { self.new.buffer ≡ self.old.buffer }
         ensures shown { self.new.parts.tasks ≡ tasks_text self.old.machine.image.app self.old.machine.state }
     {
-        if !self.is_shown {
-            self.parts.show(self.machine.app(), self.machine.state());
-            self.is_shown = true;
+        match self.unshown {
+            Unshown::Nothing => {}
+            Unshown::Few(_, _) | Unshown::All => self.show_again(),
         }
     }
 
@@ -163,6 +177,30 @@ impl<L: Ledger> Play<L> {
         }
     }
 
+    /// Notes which tasks the parts may show otherwise than they are after this event. It is a call of its own, so that where
+    /// the processor stands is looked up once.
+    #[inline(never)]
+    fn foresee(&mut self, event: Event)
+        requires declared { IsDeclared self.old.machine.image.app event }
+        ensures machine { self.new.machine ≡ self.old.machine }
+        ensures place { self.new.place ≡ self.old.place }
+        ensures buffer { self.new.buffer ≡ self.old.buffer }
+        ensures step { (r : AStep) → image_step self.old.machine.image self.old.machine.state event ≡ Some r → ShowsBut self.old.machine.image.app r.state self.new.unshown self.new.parts.kept }
+    {
+        match self.unshown {
+            Unshown::Nothing => {
+                if !self.machine.is_quiet(event) {
+                    self.unshown = Unshown::Few(
+                        self.machine.state().current(),
+                        self.machine.named(),
+                    );
+                }
+            }
+            Unshown::Few(_, _) => self.unshown = Unshown::All,
+            Unshown::All => {}
+        }
+    }
+
     /// A step of the machine, and whether it is no trap.
     #[inline(always)]
     fn step(&mut self, event: Event, notes: &mut Notes) -> bool
@@ -174,7 +212,7 @@ impl<L: Ledger> Play<L> {
         ensures buffer { self.new.buffer ≡ self.old.buffer }
         ensures step { image_step self.old.machine.image self.old.machine.state event ≡ (if result then Some (stepped self.new.machine.state notes.new) else None) }
     {
-        self.is_shown = self.is_shown && self.machine.is_quiet(event);
+        self.foresee(event);
         self.machine.step_into(event, &mut self.scans, notes)
     }
 

@@ -21,7 +21,7 @@ use osek_values::{Memory, ModeNo, Name, Notes, Steps};
 use std::alloc::Global;
 use std::marker::Brand;
 use std::sync::ledger::{Blank, Ledger};
-use trace_text::{Feed, LineParts};
+use trace_text::{Feed, LineParts, Unshown};
 
 /// The place of a name.
 fn place_of(names: &[Name], name: &[u8]) -> Option<usize>
@@ -106,7 +106,7 @@ fn play_started<L: Ledger, F: Shelf, O: Sink>(
     let mut play = Play {
         machine,
         parts,
-        is_shown: false,
+        unshown: Unshown::All,
         buffer,
         place: Place { event: 0, line: 0 },
         scans: Steps::<L>::of(blank),

@@ -1,10 +1,13 @@
 -- What the lines of a trace are put by: labels, and the text of the tasks as they were shown last.
 use Rattle.std.specs.{Prelude.{◌≡◌, ◌≢◌, ⊤, ℕ, ◌≤◌, ◌<◌, Bool, true, false, ◌==◌, List, [], ◌++◌, length, take, slice_index_or, if◌then◌else◌, codes, None, IfSome}, declared.option.Option.{Option}}
+use Rattle.std.specs.Coded.{Coded-set, Unit-prop}
+use Rattle.std.proofs.Props.{props}
 use Rattle.std.specs.List.{flat_map, enumerate_from, sum_by, cons_option}
 use Rattle.osek_values.specs.{declared.{numbers.TaskNo.{TaskNo}, status.Letter.{Letter, TheVariants.{S, Y, R, W}}}, Numbers.{mask, hexadecimal}}
 use Rattle.osek_standard.specs.declared.{app.App.{App}, objects.Task.{Task}, state.State.{State}}
 use Rattle.osek_standard.specs.{Apps.{the_task}, TaskStates.{further, is_inside, held}, Internal.{internal_of}}
 use Rattle.osek_standard.specs.{States.{is_that_task, task_of, task_state, letter_of}, TraceText.{letter, further_text, resource_text, task_text, routine_text}}
+use Rattle.trace_text.specs.contracts.shown.Shown.{the_row as shown_row}
 use Rattle.trace_text.specs.{declared.{shown.{Shown.{Shown}, KeptTask.{KeptTask}, Unshown.{Unshown, TheVariants.{Nothing, Few, All}}}, trace_line.TheConstants.{MAX_TASK}}, Labels.{LabelTexts, label_texts}}
 
 -- what a line shows of a task
@@ -121,3 +124,17 @@ module _ (app : App) (s : State) where
   ShowsBut Nothing ks = ShowsAll ks
   ShowsBut (Few x y) ks = ShowsOthers x y ks
   ShowsBut All ks = ⊤
+
+  Shown-prop : (x y : Shown) → IsProp (x ≡ y)
+  Shown-prop x y = Coded-set shown_row.coded x y
+
+  ShowsAll-prop : (ks : List KeptTask) → IsProp (ShowsAll ks)
+  ShowsAll-prop ks = hlevel (props, Shown-prop)
+
+  ShowsOthers-prop : (x y : Option TaskNo) (ks : List KeptTask) → IsProp (ShowsOthers x y ks)
+  ShowsOthers-prop x y ks = hlevel (props, Shown-prop)
+
+  pub ShowsBut-prop : (u : Unshown) (ks : List KeptTask) → IsProp (ShowsBut u ks)
+  ShowsBut-prop Nothing ks = ShowsAll-prop ks
+  ShowsBut-prop (Few x y) ks = ShowsOthers-prop x y ks
+  ShowsBut-prop All ks = Unit-prop

@@ -125,6 +125,7 @@ fn live_letter(current: Option<TaskNo>, task: TaskNo) -> Letter
 }
 
 // The letter of a task, where all else that is shown of it is as it was.
+#[inline(always)]
 fn letter_beside(
     shown: &Shown,
     state: &State,
@@ -172,6 +173,7 @@ fn keeps_events(task: &Task, old: Letter, new: Letter) -> bool
 }
 
 /// The letter of a task, where nothing of its text changes but that. It may answer none where that is so.
+#[inline(always)]
 pub(crate) fn letter_in_place(
     shown: &Shown,
     app: &App,
