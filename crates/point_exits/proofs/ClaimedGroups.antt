@@ -33,7 +33,7 @@ module _ (app : App) (pool : List Values) (levels : Levels) (all : AreAllLevels 
       subst (IsLiveAt app t level.priority) (is.is v) parts.1)
     where
       none : TaskLevels
-      none = record { judged = 0; dead = level.numbers; levels = [] }
+      none = record { judged = 0; dead = level.numbers; levels = []; blocks = record { domain = level.numbers.domain; sets = []; next = 0 } }
 
 -- what is left has a number of each component
 pub left_whole : (app : App) (pool : List Values) (c : Claim) (entry left : NumberedEntry) → IsLeft (is_under_limit app c (length app.tasks)) pool entry left → IsWhole app pool entry → AreFilled left → IsWhole app pool left

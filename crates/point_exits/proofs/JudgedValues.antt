@@ -95,6 +95,7 @@ module _ (app : App) (u : ℕ) (vs : List PartValue) where
         has = old.has;
       })
     ]);
+    blocks = h.blocks;
   }
 
   still_of : (P : PartValue → Type 0) (k : ℕ) (x : Numbers) → AreOf P vs k x → AreOf P vs (k + 1) x
@@ -131,6 +132,7 @@ module _ (app : App) (u : ℕ) (vs : List PartValue) where
           | inr live ↦ inr live
         ]
       ]);
+      blocks = h.blocks;
     })
 
     -- it is at the level at a place
@@ -162,6 +164,7 @@ module _ (app : App) (u : ℕ) (vs : List PartValue) where
             | inr old ↦ inr (level_stays x.levels k l after known at (λ m has. has_after m (with_old l.numbers x.judged m has)) n old)
           ]
         ]);
+        blocks = h.blocks;
       })
 
 -- what holds anyway holds where memory is wanted

@@ -7,6 +7,8 @@ use Rattle.abstract_state.specs.{declared.{value.PartValue.{PartValue, TheVarian
 use Rattle.numbered_sets.specs.{declared.numbered_entry.NumberedEntry.{NumberedEntry}, Numbers.{Numbers, has_number}, NumberedEntries.{no_set, numbers_at, number_domains}}
 use Rattle.numbered_sets.specs.{Pools.{Values, values_at, IsExtended, IsLonger}, Views.{plain_set, plain_entry, AreNumbersOf}}
 use Rattle.numbered_sets.proofs.{PlainLaws.{member_of_plain, plain_set_at}, SiftLaws.{value_sifted}}
+use Rattle.block_sets.specs.{declared.sets.BlockSets.{BlockSets}, AtBlocks.{AreBlockSets}}
+use Rattle.block_sets.proofs.PutLaws.{sets_longer}
 use Rattle.point_exits.specs.{declared.{task_levels.TaskLevels.{TaskLevels}, arrivals.Arrivals.{Arrivals}, levels.Levels.{Levels}}, Arrivals.{AreKnownArrivals}}
 use Rattle.point_exits.specs.Levels.{IsLiveAt, IsLiveFrom, AreOf, AreFrom, IsDead, AreTaskLevels, AreInsides, AreLevels, IsNarrowed}
 use Rattle.point_exits.proofs.{InsideLevels.{insides_longer}, KnownArrivals.{no_arrivals}}
@@ -35,7 +37,12 @@ module _ (vs ws : List PartValue) (longer : IsExtended vs ws) where
     levels = λ level there. still_of (IsLiveAt app u level.priority) x.judged level.numbers h.few (h.levels level there);
     from = λ level there. from_longer app u x.judged level.priority level.from h.few (h.from level there);
     whole = h.whole;
+    blocks = sets_longer vs ws x.blocks.sets longer h.blocks;
   }
+
+-- the numbers of further values came to those at their blocks
+pub blocks_renewed : (app : App) (u : ℕ) (vs : List PartValue) (x : TaskLevels) (blocks : BlockSets) → AreTaskLevels app u vs x → (AreBlockSets vs x.blocks.sets → AreBlockSets vs blocks.sets) → AreTaskLevels app u vs (record x { blocks = blocks })
+blocks_renewed app u vs x blocks h put = record { few = h.few; dead = h.dead; levels = h.levels; from = h.from; whole = h.whole; blocks = put h.blocks }
 
 pub levels_longer : (app : App) (pool after : List Values) (levels : Levels) → IsLonger pool after → AreLevels app pool levels → AreLevels app after levels
 levels_longer app pool after levels longer h = record {

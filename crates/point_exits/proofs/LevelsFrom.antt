@@ -97,6 +97,7 @@ module _ (priority : ℕ) (x y : TaskLevels) (k : ℕ) (l : Level) (known : k < 
         | inl dead ↦ inl dead
         | inr old ↦ inr (level_stays y.levels k l after known at (λ m has. has) n old)
       ]);
+      blocks = are.blocks;
     }
 
     same_priority : (i : ℕ) (d : Level) → (get_or (set y.levels k after) i d).priority ≡ (get_or y.levels i d).priority

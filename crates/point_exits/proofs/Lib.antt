@@ -19,6 +19,7 @@ pub mod HeldNumbers
 pub mod ExitLaws
 pub mod NumberPuts
 pub mod BlockLaws
+pub mod TakenBlocks
 pub mod LeftLaws
 pub mod KeptLaws
 pub mod OwnLevels

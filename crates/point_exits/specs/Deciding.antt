@@ -99,10 +99,12 @@ IsKnownDecision app decision.Keep = ⊤
 IsKnownDecision app (decision.To None) = ⊤
 IsKnownDecision app (decision.To (Some w)) = w.0 < length app.tasks
 
--- It is decided so with numbers that are left of each component, and the task exists at whose block the processor may stay.
-pub record IsDecided (app : App) (pool : List Values) (leaving : Leaving) (d : Decision) (left : NumberedEntry) : Type 0 where
+-- It is decided so with numbers that are left of each component, each value has its level, and the task exists at whose block the
+-- processor may stay.
+pub record IsDecided (app : App) (pool : List Values) (these : Levels) (leaving : Leaving) (d : Decision) (left : NumberedEntry) : Type 0 where
   pub stay : IsKnownStay app leaving.stay
   pub known : IsKnownDecision app d
+  pub levels : AreAllLevels app pool these
   pub whole : IsWhole app pool left
 
 -- An exit that isn't settled yet: with each choice of its values, which are values after the effect, the scheduler decides as the

@@ -7,6 +7,7 @@ use Rattle.flow_model.specs.declared.change.Update.TheVariants as update
 use Rattle.flow_model.specs.{Values.{is_live_value, value_priority}, Tests.{updated}}
 use Rattle.numbered_sets.specs.{declared.numbered_entry.NumberedEntry.{NumberedEntry}, Numbers.{Numbers, has_number}, NumberedEntries.{numbers_at}}
 use Rattle.numbered_sets.specs.Pools.{Values, values_at, domain_at, pool_domains, IsNumberOf}
+use Rattle.block_sets.specs.AtBlocks.{AreBlockSets}
 use Rattle.flow_exits.specs.Claims.{is_below}
 use Rattle.point_exits.specs.declared.{insides.Insides.{Insides}, task_levels.{Level.{Level}, TaskLevels.{TaskLevels}, TaskValues.{TaskValues}}, levels.Levels.{Levels}}
 use Rattle.point_exits.specs.Arrivals.{AreKnownArrivals}
@@ -42,13 +43,14 @@ pub record AreFrom (app : App) (u : ℕ) (vs : List PartValue) (judged p : ℕ) 
   pub whole : (n : ℕ) (d : PartValue) → n < judged → IsLiveFrom app u p (slice_index_or vs n d) → IsTrue (has_number x n)
 
 -- The first values of task u, by what the scheduler reads of them: each is dead or at a level, and those from each level's
--- priority on are known.
+-- priority on are known. Those at each block are known too, with the next ones maybe.
 pub record AreTaskLevels (app : App) (u : ℕ) (vs : List PartValue) (x : TaskLevels) : Type 0 where
   pub few : x.judged ≤ length vs
   pub dead : AreOf IsDead vs x.judged x.dead
   pub levels : (level : Level) → Contains x.levels level → IsLevel app u vs x.judged level
   pub from : (level : Level) → Contains x.levels level → AreFrom app u vs x.judged level.priority level.from
   pub whole : (n : ℕ) → n < x.judged → IsTrue (has_number x.dead n || is_at_level x.levels n)
+  pub blocks : AreBlockSets vs x.blocks.sets
 
 -- the first of a task's values
 abbrev pub AreLevelsOf : TaskValues → TaskLevels → Type 0

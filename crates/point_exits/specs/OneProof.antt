@@ -59,8 +59,8 @@ IsKnownDecision-prop app decision.Keep = Unit-prop
 IsKnownDecision-prop app (decision.To None) = Unit-prop
 IsKnownDecision-prop app (decision.To (Some w)) = le_prop
 
-pub IsDecided-prop : (app : App) (pool : List Values) (leaving : Leaving) (d : Decision) (left : NumberedEntry) → IsProp (IsDecided app pool leaving d left)
-IsDecided-prop app pool leaving d left = hlevel (props, IsKnownStay-prop, IsKnownDecision-prop, IsWhole-prop)
+pub IsDecided-prop : (app : App) (pool : List Values) (levels : Levels) (leaving : Leaving) (d : Decision) (left : NumberedEntry) → IsProp (IsDecided app pool levels leaving d left)
+IsDecided-prop app pool levels leaving d left = hlevel (props, IsKnownStay-prop, IsKnownDecision-prop, AreAllLevels-prop, IsWhole-prop)
 
 -- ---- who contends for the processor
 

@@ -48,6 +48,7 @@ impl<'a> AfterEffect<'a> {
         let decided = Decided {
             app: self.app,
             pool: self.pool,
+            levels: self.levels,
             leaving: self.leaving,
             decision: Decision::Keep,
             left: self.after,

@@ -54,6 +54,7 @@ impl<'a> Contest<'a> {
         let decided = Decided {
             app: values.app,
             pool: values.pool,
+            levels: values.levels,
             leaving: values.leaving,
             decision: idle_decision(values.leaving.asked),
             left: entry,
@@ -179,6 +180,7 @@ impl<'a> Contender<'a> {
         let decided = Decided {
             app: values.app,
             pool: values.pool,
+            levels: values.levels,
             leaving: values.leaving,
             decision: Decision::To(Some(self.task)),
             left: entry,
@@ -203,6 +205,7 @@ impl<'a> Contender<'a> {
         let decided = Decided {
             app: values.app,
             pool: values.pool,
+            levels: values.levels,
             leaving: values.leaving,
             decision: Decision::Keep,
             left: entry,

@@ -1,7 +1,8 @@
 //! What was decided with some of the values after an effect, and where the processor stands then.
 ghost use Rattle.point_exits.specs.{Deciding.{IsDecided}, OneProof.{IsDecided-prop}};
 
-use crate::group::{Ends, ExitGroup, at, at_blocks};
+use crate::group::{Ends, ExitGroup, at, at_blocks, at_task_blocks};
+use crate::levels::Levels;
 use abstract_state::Point;
 use flow_model::{Decision, Leaving, Runner, Stay};
 use numbered_sets::{NumberedEntry, Pool};
@@ -14,10 +15,11 @@ use std::alloc::Global;
 pub struct Decided<'a> {
     pub app: &'a App,
     pub pool: &'a Pool,
+    pub levels: &'a Levels,
     pub leaving: Leaving,
     pub decision: Decision,
     pub left: NumberedEntry,
-    ghost decided: { IsDecided app.now pool.now leaving decision left } by { IsDecided-prop app.now pool.now leaving decision left },
+    ghost decided: { IsDecided app.now pool.now levels.now leaving decision left } by { IsDecided-prop app.now pool.now levels.now leaving decision left },
 }
 
 impl<'a> Decided<'a> {
@@ -45,12 +47,23 @@ impl<'a> Decided<'a> {
         match self.decision {
             Decision::Keep => match self.leaving.stay {
                 Stay::At(point) => at(alloc, point),
+                Stay::AtBlockOf(Runner::Task(task)) => at_task_blocks(
+                    alloc,
+                    self.pool,
+                    task,
+                    &self.levels.of(task).blocks,
+                    &self.left,
+                ),
                 Stay::AtBlockOf(runner) => at_blocks(alloc, self.pool, runner, &self.left),
             },
             Decision::To(None) => at(alloc, Point::Idle),
-            Decision::To(Some(task)) => {
-                at_blocks(alloc, self.pool, Runner::Task(task), &self.left)
-            }
+            Decision::To(Some(task)) => at_task_blocks(
+                alloc,
+                self.pool,
+                task,
+                &self.levels.of(task).blocks,
+                &self.left,
+            ),
         }
     }
 }

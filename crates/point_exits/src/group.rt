@@ -1,14 +1,17 @@
 //! Exits that have all but the point, and for each the values of one component, in common; and the points where they end.
 ghost use Rattle.std.specs.Prelude.{◌≡◌, ◌<◌, ◌∷◌, [], length, slice_index_or, IfOk, OnOk, IfSome};
 ghost use Rattle.flow_model.specs.Runners.{component_of};
-ghost use Rattle.numbered_sets.specs.Views.{AreNumbersOf};
+ghost use Rattle.flow_model.specs.declared.runner.Runner.TheVariants as runners;
+ghost use Rattle.numbered_sets.specs.{Pools.{values_at}, Views.{AreNumbersOf}};
+ghost use Rattle.block_sets.specs.AtBlocks.{AreBlockSets};
 ghost use Rattle.point_exits.specs.{declared.group.NumberEnd.{NumberEnd}, Deciding.{AreBlocks, HaveNumbersOf, IsNumberPut}};
 ghost use Rattle.point_exits.specs.declared.group.Ends.TheVariants as ends;
 
 use abstract_state::{Domain, Point};
+use block_sets::BlockSets;
 use flow_model::{Decision, Runner};
 use numbered_sets::{NumberedEntry, NumberedSet, Pool};
-use osek_values::{Memory, Seq, Status};
+use osek_values::{Memory, Seq, Status, TaskNo};
 use std::alloc::Global;
 
 /// The numbers of a component's values with which a step ends at a point.
@@ -55,7 +58,47 @@ pub fn at(alloc: Global, point: Point) -> Result<Ends, Memory>
     Ok(Ends::At(points))
 }
 
-/// The blocks of a runner's values, each with those that stand there; `places` tells by a block's row where its end stands.
+/// The blocks of a task's values, each with those that stand there: by the sets of the blocks, where the task has many values.
+pub fn at_task_blocks(
+    alloc: Global,
+    pool: &Pool,
+    task: TaskNo,
+    blocks: &BlockSets,
+    entry: &NumberedEntry,
+) -> Result<Ends, Memory>
+    requires known { task.0 < length entry.now.sets }
+    requires numbers { AreNumbersOf pool.now entry.now }
+    requires blocks { AreBlockSets (values_at pool.now task.0) blocks.now.sets }
+    ensures { IfOk result (AreBlocks pool.now entry.now (runners.Task task)) }
+{
+    let runner = Runner::Task(task);
+    if blocks.sets.is_empty() {
+        return at_blocks(alloc, pool, runner, entry);
+    }
+    let component = task.index();
+    let count = pool.len(component);
+    let mut left = entry.sets.set(alloc, component)?;
+    let mut ends = Seq::new(alloc);
+    let mut number = left.next(0, count);
+    while number < count {
+        let Some(place) = blocks.place_with(number) else {
+            return at_blocks(alloc, pool, runner, entry);
+        };
+        let here = blocks.sets.at(place);
+        let elsewhere = left.without(alloc, &here.numbers)?;
+        let numbers = left.without(alloc, &elsewhere)?;
+        ends.push(NumberEnd {
+            component,
+            numbers,
+            target: runner.at(here.block),
+        })?;
+        left = elsewhere;
+        number = left.next(number + 1, count);
+    }
+    Ok(Ends::With(ends))
+}
+
+/// The same of any runner's values, number by number; `places` tells by a block's row where its end stands.
 pub fn at_blocks(
     alloc: Global,
     pool: &Pool,
@@ -69,7 +112,13 @@ pub fn at_blocks(
     let component = runner.component().index();
     let domain = entry.sets.domain(component);
     let count = pool.len(component);
-    let (first, blocks) = blocks_of(domain);
+    // the first block of the task or the routine, and how many it has
+    let (first, blocks) = match domain {
+        Domain::Task { first, count, .. } | Domain::Source { first, count, .. } => {
+            (first.index(), usize::from(count))
+        }
+        Domain::Event | Domain::Alarm => (0, 0),
+    };
     let mut places = Vec::from_elem(alloc, 0, blocks)?;
     let mut ends = Seq::new(alloc);
     let mut number = entry.next(component, 0, count);
@@ -125,14 +174,4 @@ fn end_at(places: &[usize], row: usize, ends: &Seq<NumberEnd>, target: Point) ->
         return Some(place);
     }
     None
-}
-
-// the first block of the task or the routine, and how many it has
-fn blocks_of(domain: Domain) -> (usize, usize) {
-    match domain {
-        Domain::Task { first, count, .. } | Domain::Source { first, count, .. } => {
-            (first.index(), usize::from(count))
-        }
-        Domain::Event | Domain::Alarm => (0, 0),
-    }
 }

@@ -2,6 +2,7 @@
 ghost use Rattle.std.specs.Prelude.{◌≡◌, ◌<◌, length};
 
 use abstract_state::{Domain, PartValue};
+use block_sets::BlockSets;
 use flow_exits::as_candidate;
 use numbered_sets::{NumberedEntry, NumberedSet, Pool};
 use osek_standard::App;
@@ -24,6 +25,8 @@ pub struct TaskLevels {
     pub judged: usize,
     pub dead: NumberedSet,
     pub levels: Seq<Level>,
+    /// The numbers of the values at each block; those of the next values may be there already.
+    pub blocks: BlockSets,
 }
 
 /// The values with which a task of an application was seen.
@@ -55,6 +58,7 @@ impl TaskLevels {
             judged: 0,
             dead: NumberedSet::new(alloc, domain),
             levels: Seq::new(alloc),
+            blocks: BlockSets::new(alloc, domain),
         }
     }
 
@@ -64,7 +68,13 @@ impl TaskLevels {
         ensures levels { AreLevelsOf values.now self.new }
         ensures all { OnOk result (self.new.judged ≡ length (values_at values.now.pool.now values.now.task.0)) }
     {
-        for number in self.judged..values.pool.len(values.task.index()) {
+        let component = values.task.index();
+        let count = values.pool.len(component);
+        if self.judged >= count {
+            return Ok(());
+        }
+        self.blocks.renew(alloc, values.pool, component)?;
+        for number in self.judged..count {
             self.judge_next(alloc, values)?;
             self.judged = number + 1;
         }

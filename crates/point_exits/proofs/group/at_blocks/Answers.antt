@@ -5,6 +5,7 @@ use Rattle.flow_model.specs.Runners.{component_of, runner_point}
 use Rattle.numbered_sets.specs.{Numbers.{has_number}, NumberedEntries.{numbers_at}, Pools.{values_at, IsNumberOf}}
 use Rattle.point_exits.specs.Deciding.{HaveNumbersOf}
 use Rattle.point_exits.proofs.BlockLaws.{pool_has, no_blocks, more_blocks, all_blocks}
+use Rattle.point_exits.proofs.group.at_blocks.Goals.{in-Event, in-Task2}
 use Rattle.point_exits.proofs.group.at_blocks.Goals as goal
 
 pub len-count-requires : goal.len-count-requires
@@ -36,9 +37,10 @@ loop-number-preserved c =
     let xs = c.loop-number.ends in
     let ys = c.put_number.new.ends in
     let is : c.index-component.result ≡ component_of r = c.index-component.ensures ∙ ap (λ (z : ComponentNo). z.0) c.component.ensures in
+    let same : c.match-domain.domain ≡ c.domain-domain.result = elim c.match-domain.branch [ in-Event w ↦ w.domain-is | in-Task2 w ↦ w.domain-is ∙ w.in-Task.domain-is ] in
     let keeps : HaveNumbersOf (component_of r) (numbers_at entry (component_of r)).domain xs → HaveNumbersOf (component_of r) (numbers_at entry (component_of r)).domain ys =
     subst (λ (i : ℕ). HaveNumbersOf i (numbers_at entry i).domain xs → HaveNumbersOf i (numbers_at entry i).domain ys) is
-    (subst (λ (d : Domain). HaveNumbersOf c.index-component.result d xs → HaveNumbersOf c.index-component.result d ys) c.domain-domain.ensures c.in_ok-put_number.ensures.some) in
+    (subst (λ (d : Domain). HaveNumbersOf c.index-component.result d xs → HaveNumbersOf c.index-component.result d ys) (same ∙ c.domain-domain.ensures) c.in_ok-put_number.ensures.some) in
     let value = get_or (values_at pool c.index-component.result) m (OfEvent false) in
     let known : m < length (values_at pool c.index-component.result) = omega (arith, c.loop-number-test.true, c.len-count.ensures) in
     let here : IsNumberOf (values_at pool c.index-component.result) value m = record { known = known; is = λ d. get_or_default (values_at pool c.index-component.result) m d (OfEvent false) known } in

@@ -4,7 +4,7 @@ use Rattle.point_exits.proofs.{ExitLaws.{adds_group}, WholeLaws.{unasked_group}}
 use Rattle.point_exits.proofs.after_effect.AfterEffect.push_unasked.Goals as goal
 
 pub invariant_of-decided : goal.invariant_of-decided
-invariant_of-decided c = (let x = c.args.self in record { decided = record { stay = x.decidable.stay; known = tt; whole = x.decidable.whole } })
+invariant_of-decided c = (let x = c.args.self in record { decided = record { stay = x.decidable.stay; known = tt; levels = x.decidable.levels; whole = x.decidable.whole } })
 
 pub returns : goal.returns
 returns c =

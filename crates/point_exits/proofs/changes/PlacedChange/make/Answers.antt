@@ -1,7 +1,7 @@
 use Rattle.std.proofs.Common.{◌≡◌, ◌<◌, ◌≤◌, ◌+◌, length, get_or, set, true, false, sym, ap, subst, ℕ, ◌∙◌, List, map, arith, IsTrue}
 use Rattle.std.specs.Prelude.{IfSome}
 use Rattle.abstract_state.specs.{Domains.{IsWithin}, Tables.{is_member}}
-use Rattle.flow_model.specs.{declared.change.Change.{Change}, Tests.{value_after}}
+use Rattle.flow_model.specs.{Tests.{value_after}}
 use Rattle.numbered_sets.specs.{Numbers.{Numbers}, NumberedEntries.{no_set}, Pools.{values_at, domain_at}, Views.{plain_set}}
 use Rattle.numbered_sets.proofs.{CopiedEntries.{domains_put}, NumberingLaws.{longer_itself}}
 use Rattle.point_exits.specs.{Applying.{IsPassedSet, bare_rule}, Changing.{is_named, up_to, making, IsAlone, AreAllPassed}}

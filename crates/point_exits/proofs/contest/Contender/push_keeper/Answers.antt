@@ -25,7 +25,7 @@ invariant_of-decided c =
     let level = c.args.self.now.level.now in
     let left : IsCut x.app.now x.pool.now (claim.Keeps t level.priority) t.0 level x.after c.in-Some.entry
     = subst (λ (o : Option NumberedEntry). IfSome o (IsCut x.app.now x.pool.now (claim.Keeps t level.priority) t.0 level x.after)) c.in-Some.is c.in_ok-entry.ensures.some in
-    record { decided = record { stay = x.decidable.stay; known = tt; whole = left.whole } }
+    record { decided = record { stay = x.decidable.stay; known = tt; levels = x.decidable.levels; whole = left.whole } }
 
 pub returns : goal.returns
 returns c =

@@ -31,7 +31,7 @@ invariant_of-decided c =
     let gets = claim.Gets w level.priority c.over.result c.may_tie.result in
     let left : IsCut x.app.now x.pool.now gets w.0 level x.after c.in-Some.entry
     = subst (λ (o : Option NumberedEntry). IfSome o (IsCut x.app.now x.pool.now gets w.0 level x.after)) c.in-Some.is c.in_ok-entry.ensures.some in
-    record { decided = record { stay = x.decidable.stay; known = c.args.self.now.known; whole = left.whole } }
+    record { decided = record { stay = x.decidable.stay; known = c.args.self.now.known; levels = x.decidable.levels; whole = left.whole } }
 
 pub returns : goal.returns
 returns c =

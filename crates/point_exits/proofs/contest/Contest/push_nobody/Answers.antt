@@ -17,6 +17,7 @@ invariant_of-decided c =
       decided = record {
         stay = x.decidable.stay;
         known = subst (IsKnownDecision x.app.now) (sym c.idle_decision.ensures) (idle_known x.app.now x.leaving.asked c.requires);
+        levels = x.decidable.levels;
         whole = left_whole x.app.now x.pool.now claim.Nobody x.after c.in-Some.entry left x.decidable.whole filled;
       };
     }
