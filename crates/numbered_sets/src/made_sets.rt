@@ -31,7 +31,7 @@ pub struct MadeSets {
 const MOST: usize = 131072;
 
 impl MadeSets {
-    ghost use Rattle.std.specs.Prelude.{◌≡◌, ◌<◌, [], length, slice_index_or, IfSome, OnOk};
+    ghost use Rattle.std.specs.Prelude.{◌≡◌, ◌<◌, [], length, slice_index_or, IfSome, IfNone, OnOk};
     ghost use Rattle.numbered_sets.specs.{declared.made_sets.MadeSet.{MadeSet}, Keeping.{AreStillMade, IsKeptOf, made_set, with_further}};
 
     /// Nothing was made yet.
@@ -49,6 +49,7 @@ impl MadeSets {
     pub fn find(&mut self, place: u32, update: &Update, numbers: &NumberedSet) -> Option<usize>
         ensures same { self.new.sets ≡ self.old.sets }
         ensures found { IfSome result (IsKeptOf update.now numbers.now self.new.sets) }
+        ensures none { IfNone result (self.new ≡ self.old) }
     {
         let begin = self.next.min(self.sets.len());
         let found = match self.find_from(place, update, numbers, begin) {

@@ -150,12 +150,12 @@ impl NumberedSet {
     }
 
     /// How many words it has past the first two.
-    pub fn words(&self) -> usize {
+    pub(crate) fn words(&self) -> usize {
         self.more.len()
     }
 
     /// Whether it has words past the first two, and numbers in at least half of them.
-    pub fn is_large(&self) -> bool {
+    pub(crate) fn is_large(&self) -> bool {
         !self.more.is_empty() && count_clear(self.more.as_slice()) <= self.more.len() / 2
     }
 
@@ -196,8 +196,9 @@ impl NumberedSet {
     }
 
     /// Puts in the numbers of another set.
-    pub fn join(&mut self, other: &NumberedSet) -> Result<(), Memory>
-        ensures { OnOk result (self.new ≡ joined_numbers self.old other.now) }
+    pub(crate) fn join(&mut self, other: &NumberedSet) -> Result<(), Memory>
+        ensures set { OnOk result (self.new ≡ joined_numbers self.old other.now) }
+        ensures err { OnErr result (self.new ≡ self.old) }
     {
         words::are_two_words(self.low, self.high);
         words::are_two_words(other.low, other.high);

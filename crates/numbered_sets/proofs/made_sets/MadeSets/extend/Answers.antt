@@ -11,7 +11,7 @@ returns c = λ none vs h k.
     let given = c.args.given.now in
     let now : MadeSet = made_set was.place was.update c.join.new.self c.join-2.new.self in
     let same : now ≡ with_further was given c.args.made.now =
-    ap (λ (x : Numbers). made_set was.place was.update x c.join-2.new.self) c.in_ok-join.ensures
-    ∙ ap (λ (x : Numbers). made_set was.place was.update (joined_numbers was.given given) x) c.in_ok-join-2.ensures in
+    ap (λ (x : Numbers). made_set was.place was.update x c.join-2.new.self) c.in_ok-join.ensures.set
+    ∙ ap (λ (x : Numbers). made_set was.place was.update (joined_numbers was.given given) x) c.in_ok-join-2.ensures.set in
     kept_put vs sets c.args.at now h
     (subst (IsMadeSet vs) (sym same) (subst (λ (y : MadeSet). IsMadeSet vs (with_further y given c.args.made.now)) (c.at_mut-kept.ensures.item none) k))

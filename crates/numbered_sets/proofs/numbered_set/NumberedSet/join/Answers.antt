@@ -1,13 +1,13 @@
-use Rattle.std.proofs.Common.{◌≡◌, length, ap, ap₂, ◌∙◌, arith}
+use Rattle.std.proofs.Common.{rules, ◌≡◌, ◌∷◌, length, ap, ap₂, ◌∙◌, arith}
 use Rattle.std.specs.{Prelude.{bit_or}, Vec.{with_items}}
 use Rattle.std.proofs.lemmas.List.{with_items_is}
 use Rattle.bit_words.specs.Words.{bits_of_words}
-use Rattle.bit_words.proofs.FirstWords.{either_two}
+use Rattle.bit_words.proofs.FirstWords.{either_two, same_further}
 use Rattle.numbered_sets.specs.Numbers.{Numbers, numbers}
 use Rattle.numbered_sets.proofs.numbered_set.NumberedSet.join.Goals as goal
 
-pub returns : goal.returns
-returns c =
+pub returns-clause-set : goal.returns-clause-set
+returns-clause-set c =
     let a = c.self.inside.low in
     let b = c.self.inside.high in
     let ws = c.self.inside.more.items in
@@ -22,3 +22,9 @@ returns c =
     ap (numbers c.self.inside.domain)
     (either_two a b x y ws us (with_items wide c.join_words.new.words).items c.are_two_words.ensures.low c.are_two_words.ensures.high c.are_two_words-2.ensures.low c.are_two_words-2.ensures.high rest)
     ∙ ap₂ (λ (m n : Numbers). numbers m.domain (bit_or m.bits n.bits)) c.self.view_is c.other.view_is
+
+pub returns-in_err-widen-clause-err : goal.returns-in_err-widen-clause-err
+returns-in_err-widen-clause-err c =
+    let same : numbers c.self.inside.domain (bits_of_words (c.self.inside.low ∷ c.self.inside.high ∷ c.widen.new.words.items)) ≡ c.args.self.now =
+    ap (numbers c.self.inside.domain) (same_further c.self.inside.low c.self.inside.high c.self.inside.more.items c.widen.new.words.items c.in_err-widen.ensures.same) ∙ c.self.view_is in
+    search (rules, same)

@@ -65,7 +65,7 @@ returns-clause-made c =
     (λ n has. c.requires.known n (of_others asked x.given n (subst (λ (m : Numbers). IsTrue (has_number m n)) since has))) new in
     let same : HaveSame asked (joined_numbers x.given more) = subst (λ (m : Numbers). HaveSame asked (joined_numbers x.given m)) (sym since) (same_with_others asked x.given within) in
     kept_answer ws (with_further x more made) c.args.update.now asked c.join.new.self (length vs) both update same c.requires.known
-    (c.in_ok-join.ensures ∙ ap (λ (m : Numbers). joined_numbers m made) (c.in_ok-answer.ensures ∙ ap (λ (d : Domain). numbers d x.made.bits) c.domain.ensures))
+    (c.in_ok-join.ensures.set ∙ ap (λ (m : Numbers). joined_numbers m made) (c.in_ok-answer.ensures ∙ ap (λ (d : Domain). numbers d x.made.bits) c.domain.ensures))
 
 pub returns-clause-kept : goal.returns-clause-kept
 returns-clause-kept c =
