@@ -8,7 +8,7 @@ use Rattle.osek_standard.proofs.{Members.{among_map, map_among, contained_among,
 use Rattle.abstract_state.specs.{declared.table.{PlainEntry.{PlainEntry}, TableRow.{TableRow}, PlainTable.{PlainTable}}, Domains.{HasMasks}, Tables.{entry_values, value_count}}
 use Rattle.abstract_state.specs.Written.{IsWritten}
 use Rattle.abstract_state.proofs.{DomainValues.{domain_counted}, LatticeLaws.{most_values}, HeightLaws.{entry_height_is, sum_map}}
-use Rattle.state_flow.specs.{declared.cells.Cell.{Cell}, Cells.{IsWaitingCell, NoneWaitsFrom}, Rows.{row_of, table_of}, Progress.{values_in, Progress}}
+use Rattle.state_flow.specs.{declared.cells.Cell.{Cell}, Cells.{IsWaitingCell, NoneWaits}, Rows.{row_of, table_of}, Progress.{values_in, Progress}}
 use Rattle.state_flow.proofs.{RowLaws.{written}, Closing.{room_left, counted_at_end}}
 
 same_laws : IsEquivalence (eq_by_cmp nat_cmp)
@@ -56,9 +56,9 @@ room app masks cells n place progress at =
     omega (arith, room_left app cells n place progress at, rows_few app (table_of cells) whole, values_few app (table_of cells) whole masks, values_same cells, length-map cells row_of)
 
 -- at the end each row was evaluated, and no more often than rows and values came in
-pub rows_evaluated : (app : App) (cells : List (Cell PlainEntry)) (n : ℕ) → Progress app cells n → NoneWaitsFrom cells 0 → length (map row_of cells) ≤ n
+pub rows_evaluated : (app : App) (cells : List (Cell PlainEntry)) (n : ℕ) → Progress app cells n → NoneWaits cells → length (map row_of cells) ≤ n
 rows_evaluated app cells n progress none = omega (arith, (counted_at_end app cells n progress none).1, length-map cells row_of)
 
-pub evaluations_few : (app : App) (cells : List (Cell PlainEntry)) (n : ℕ) → Progress app cells n → NoneWaitsFrom cells 0 → n ≤ points app + value_count (table_of cells)
+pub evaluations_few : (app : App) (cells : List (Cell PlainEntry)) (n : ℕ) → Progress app cells n → NoneWaits cells → n ≤ points app + value_count (table_of cells)
 evaluations_few app cells n progress none =
     omega (arith, (counted_at_end app cells n progress none).0, rows_few app (table_of cells) (written app cells progress.cells_proper), values_same cells, length-map cells row_of)

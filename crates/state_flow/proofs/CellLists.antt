@@ -7,7 +7,7 @@ use Rattle.osek_standard.specs.{declared.point.Point.{Point}, Points.{point_numb
 use Rattle.table_rows.specs.Order.{AscendBy, IsPlaceBy, IsGapBy}
 use Rattle.table_rows.proofs.{ListEdits.{insert_has, insert_stays, insert_place, insert_cases}, OrderLaws.{ascend_alike, place_alike, gap_alike, ascend_set, ascend_insert}}
 use Rattle.state_flow.specs.declared.cells.Cell.{Cell}
-use Rattle.state_flow.specs.Cells.{cell_number, AreCellsInOrder, IsWaitingCell, IsNextWaiting, WasEvaluatedWith, waits, MayJoin, HasAbove, IsRaised, IsJoined}
+use Rattle.state_flow.specs.Cells.{cell_number, AreCellsInOrder, WasEvaluatedWith, waits, MayJoin, HasAbove, IsRaised, IsJoined}
 
 -- what a list has after an edit
 module _ {X : Type 0} (xs : List X) (i : ℕ) (v : X) where
@@ -73,11 +73,6 @@ module _ {E : Type 0} where
           lt;
       ascend = ascend_insert cell_number cells order.ascend gap cell at;
     }
-
-  -- the next cell that waits is one that waits
-  pub next_waits : (cells : List (Cell E)) (from place : ℕ) → IsNextWaiting cells from place → IsWaitingCell cells place
-  next_waits cells from place (inl here) = here.waits
-  next_waits cells from place (inr first) = first.1.waits
 
 -- in the words of a lattice
 module _ {E : Type 0} (IsElement : E → Type 0) (AreAlike IsLower : E → E → Type 0) (rank : E → ℕ) (itself : (x : E) → IsLower x x) where

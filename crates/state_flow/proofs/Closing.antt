@@ -13,7 +13,7 @@ use Rattle.abstract_state.specs.Regular.{IsRegular}
 use Rattle.abstract_state.proofs.{RegularLaws.{start_regular, step_regular}, ContainmentLaws.{in_larger}, AlikeLaws.{in_alike}, MarkLaws.{shown_silent}}
 use Rattle.flow_model.specs.Effects.{IsAt}
 use Rattle.numbered_sets.specs.PlainTables.{row_at}
-use Rattle.state_flow.specs.{declared.cells.Cell.{Cell}, Cells.{AreCellsInOrder, IsWaitingCell, NoneWaitsFrom, WasEvaluatedWith, cell_number, waits, waiting_count}}
+use Rattle.state_flow.specs.{declared.cells.Cell.{Cell}, Cells.{AreCellsInOrder, IsWaitingCell, NoneWaits, WasEvaluatedWith, cell_number, waits, waiting_count}}
 use Rattle.point_exits.specs.Rows.{IsProperRow, IsRowIn}
 use Rattle.state_flow.specs.Rows.{row_of, sets_in}
 use Rattle.point_exits.specs.Starts.{IsStartRow}
@@ -189,33 +189,33 @@ module _ (app : App) where
     fewest = omega (arith, so_far.fewest);
   }
 
-none_waiting : (cells : List (Cell PlainEntry)) → NoneWaitsFrom cells 0 → waiting_count cells ≡ 0
+none_waiting : (cells : List (Cell PlainEntry)) → NoneWaits cells → waiting_count cells ≡ 0
 none_waiting [] none = refl
 none_waiting (cell ∷ cells) none =
-    let first : waits cell ≡ 0 = rw (none 0 cell (omega arith) (omega arith)) refl in
-    let rest = none_waiting cells (λ k d from lt. none (suc k) d (omega arith) (omega (arith, lt))) in
+    let first : waits cell ≡ 0 = rw (none 0 cell (omega arith)) refl in
+    let rest = none_waiting cells (λ k d lt. none (suc k) d (omega (arith, lt))) in
     sum_by-cons waits cell cells ∙ omega (arith, first, rest)
 
 -- nothing waits: each step stays in the table
-pub least_at_end : (app : App) (cells : List (Cell PlainEntry)) (n : ℕ) → Progress app cells n → NoneWaitsFrom cells 0 → Least app (sets_in cells)
+pub least_at_end : (app : App) (cells : List (Cell PlainEntry)) (n : ℕ) → Progress app cells n → NoneWaits cells → Least app (sets_in cells)
 least_at_end app cells n progress none = record {
   inductive = record {
     start = progress.start;
     step = λ s e h.
         let x = entry_cell cells (point_of s) h.entry in
-        let idle : x.cell.waiting ≡ false = ap (λ (y : Cell PlainEntry). y.waiting) (sym x.among.2) ∙ none x.among.0 x.cell (omega arith) x.among.1 in
+        let idle : x.cell.waiting ≡ false = ap (λ (y : Cell PlainEntry). y.waiting) (sym x.among.2) ∙ none x.among.0 x.cell x.among.1 in
         progress.closed x.cell x.among x.cell.entry (inr (idle, refl)) s e (at_cell app cells x.cell progress.cells_proper.order x.among s h (sym x.at));
   };
   least = progress.least;
 }
 
-pub counted_at_end : (app : App) (cells : List (Cell PlainEntry)) (n : ℕ) → Progress app cells n → NoneWaitsFrom cells 0 → (n ≤ length cells + values_in cells) × (length cells ≤ n)
+pub counted_at_end : (app : App) (cells : List (Cell PlainEntry)) (n : ℕ) → Progress app cells n → NoneWaits cells → (n ≤ length cells + values_in cells) × (length cells ≤ n)
 counted_at_end app cells n progress none = (omega (arith, progress.most, none_waiting cells none), omega (arith, progress.fewest, none_waiting cells none))
 
 -- while a cell waits, fewer evaluations were made than cells and values there are
 pub room_left : (app : App) (cells : List (Cell PlainEntry)) (n place : ℕ) → Progress app cells n → IsWaitingCell cells place → n < length cells + values_in cells
 room_left app cells n place progress at =
-    let d : Cell PlainEntry = record { point = point.Halted; number = 0; waiting = false; entry = record { sets = [] }; before = None } in
+    let d : Cell PlainEntry = record { point = point.Halted; number = 0; waiting = false; entry = record { sets = [] }; before = None; growth = tt } in
     let some = get_or-le-sum_by waits cells place d at.known in
     let one : waits (get_or cells place d) ≡ 1 = rw (at.waits d) refl in
     omega (arith, progress.most, some, one)

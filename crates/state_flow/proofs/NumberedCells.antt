@@ -9,7 +9,7 @@ use Rattle.numbered_sets.specs.{declared.{numbered_entry.NumberedEntry.{Numbered
 use Rattle.numbered_sets.specs.{Pools.{Values, no_values, pool_domains, AreValues, IsLonger}, Views.{plain_entry, AreNumbersOf}}
 use Rattle.numbered_sets.proofs.{ViewLaws.{same_view, still_known, same_heights, same_domains}, KnownNumbers.{known_sound}}
 use Rattle.numbered_sets.specs.PlainTables.{row_at, plain_row, plain_rows}
-use Rattle.state_flow.specs.{declared.cells.Cell.{Cell}, Cells.{cell_number, AreCellsInOrder, IsWaitingCell, NoneWaitsFrom, MayJoin, IsJoined}}
+use Rattle.state_flow.specs.{declared.cells.Cell.{Cell}, Cells.{cell_number, AreCellsInOrder, IsWaitingCell, NoneWaits, MayJoin, IsJoined}}
 use Rattle.point_exits.specs.Rows.{IsProperRow}
 use Rattle.state_flow.specs.Progress.{AreProperCells, AreJoined}
 use Rattle.state_flow.proofs.{CellLists.{set_cases}, JoinedRows.{may_join, joined_one}, Closing.{evaluated, evaluated_proper, progress_made}}
@@ -40,16 +40,16 @@ pub waits_plain : (pool : List Values) (cells : List (Cell NumberedEntry)) (plac
 waits_plain pool cells place h = record {
   known = (let long = length-map cells (plain_cell pool) in omega (arith, h.known, long));
   waits = λ d.
-      (let some : Cell NumberedEntry = record { point = d.point; number = 0; waiting = false; entry = record { sets = [] }; before = None } in
+      (let some : Cell NumberedEntry = record { point = d.point; number = 0; waiting = false; entry = record { sets = [] }; before = None; growth = tt } in
       ap (λ (x : Cell PlainEntry). x.waiting) (plain_at pool cells place d some h.known) ∙ h.waits some);
 }
 
-pub none_waits_plain : (pool : List Values) (cells : List (Cell NumberedEntry)) (from : ℕ) → NoneWaitsFrom cells from → NoneWaitsFrom (plain_cells pool cells) from
-none_waits_plain pool cells from h k d le lt =
+pub none_waits_plain : (pool : List Values) (cells : List (Cell NumberedEntry)) → NoneWaits cells → NoneWaits (plain_cells pool cells)
+none_waits_plain pool cells h k d lt =
     let long = length-map cells (plain_cell pool) in
-    let some : Cell NumberedEntry = record { point = d.point; number = 0; waiting = false; entry = record { sets = [] }; before = None } in
+    let some : Cell NumberedEntry = record { point = d.point; number = 0; waiting = false; entry = record { sets = [] }; before = None; growth = tt } in
     let below : k < length cells = omega (arith, lt, long) in
-    ap (λ (x : Cell PlainEntry). x.waiting) (plain_at pool cells k d some below) ∙ h k some le below
+    ap (λ (x : Cell PlainEntry). x.waiting) (plain_at pool cells k d some below) ∙ h k some below
 
 module _ (app : App) (pool : List Values) (cells : List (Cell NumberedEntry)) (point : Point) (entry : NumberedEntry) (all : All AreValues pool) (numbered : AreNumberedCells app pool cells) (its : AreNumbersOf pool entry)
     (is_proper : IsProperRow app (row_at point (plain_entry pool entry))) where
@@ -80,6 +80,7 @@ cell_same pool after cell longer known kept = λ i. record {
   waiting = cell.waiting;
   entry = same_view pool after cell.entry longer known i;
   before = kept_same pool after cell.before longer kept i;
+  growth = tt;
 }
 
 cells_by : (pool after : List Values) (cells : List (Cell NumberedEntry)) → IsLonger pool after → ((cell : Cell NumberedEntry) → Among cell cells → plain_cell after cell ≡ plain_cell pool cell) → plain_cells after cells ≡ plain_cells pool cells
@@ -112,6 +113,10 @@ known_still app pool after row longer h = record {
 }
 
 -- ---- an evaluation
+
+-- a cell that is lent out of its memory is the one there
+pub lent_there : (cells : List (Cell NumberedEntry)) (place : ℕ) (own lent : Cell NumberedEntry) → own ≡ lent → own ≡ get_or cells place own → get_or cells place lent ≡ lent
+lent_there cells place own lent same there = subst (λ (x : Cell NumberedEntry). get_or cells place x ≡ x) same (sym there)
 
 abbrev pub asked : Cell NumberedEntry → Option NumberedEntry → Cell NumberedEntry
 asked cell kept = record cell { waiting = false; before = kept }

@@ -17,22 +17,12 @@ module _ {E : Type 0} where
     pub known : place < length cells
     pub waits : (d : Cell E) → (slice_index_or cells place d).waiting ≡ true
 
-  -- no cell of these places waits
-  abbrev pub NoneWaitsWithin : List (Cell E) → ℕ → ℕ → Type 0
-  NoneWaitsWithin cells from end = (k : ℕ) (d : Cell E) → from ≤ k → k < end → (slice_index_or cells k d).waiting ≡ false
+  -- no cell before a place waits
+  abbrev pub NoneWaitsBefore : List (Cell E) → ℕ → Type 0
+  NoneWaitsBefore cells end = (k : ℕ) (d : Cell E) → k < end → (slice_index_or cells k d).waiting ≡ false
 
-  abbrev pub NoneWaitsFrom : List (Cell E) → ℕ → Type 0
-  NoneWaitsFrom cells from = NoneWaitsWithin cells from (length cells)
-
-  -- the first cell that waits from a place on
-  pub record IsFirstWaiting (cells : List (Cell E)) (from place : ℕ) : Type 0 where
-    pub behind : from ≤ place
-    pub waits : IsWaitingCell cells place
-    pub first : NoneWaitsWithin cells from place
-
-  -- the same, or, where none waits there, the first of all
-  abbrev pub IsNextWaiting : List (Cell E) → ℕ → ℕ → Type 0
-  IsNextWaiting cells from place = IsFirstWaiting cells from place ⊎ (NoneWaitsFrom cells from × IsFirstWaiting cells 0 place)
+  abbrev pub NoneWaits : List (Cell E) → Type 0
+  NoneWaits cells = NoneWaitsBefore cells (length cells)
 
   -- The point was evaluated with this entry: the one that the cell keeps of then, or its own where it doesn't wait.
   abbrev pub WasEvaluatedWith : Cell E → E → Type 0

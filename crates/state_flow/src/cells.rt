@@ -1,7 +1,8 @@
 //! Points that were reached, with what is known of each, in the order of the points.
-ghost use Rattle.std.specs.Prelude.{◌≡◌, OnOk, IfSome, IfNone};
-ghost use Rattle.state_flow.specs.Cells.{AreCellsInOrder, NoneWaitsFrom, IsFirstWaiting, IsNextWaiting, MayJoin, IsJoined};
+ghost use Rattle.std.specs.Prelude.{◌≡◌, OnOk};
+ghost use Rattle.state_flow.specs.Cells.{AreCellsInOrder, MayJoin, IsJoined};
 
+use crate::agenda::Growth;
 use crate::kept::Kept;
 use crate::lattice::Lattice;
 use osek_standard::Point;
@@ -17,9 +18,10 @@ pub struct Cell<E> {
     pub number: u32,
     /// It is to be evaluated: it is new, or its entry grew since it was.
     pub waiting: bool,
-    pub entry: Kept<E>,
+    pub entry: E,
     /// What the entry was when the point was last evaluated, where that is kept.
     pub before: Option<Kept<E>>,
+    pub growth: Growth,
 }
 
 impl<E: Lattice> Cell<E> {
@@ -36,46 +38,24 @@ impl<E: Lattice> Cell<E> {
         let added = self.entry.join_into(other)?;
         if added > 0 {
             self.waiting = true;
+            self.growth.add(added);
         }
         Ok(())
     }
 }
 
-impl<E> Keyed for Cell<E> {
+impl<E> Keyed for Kept<Cell<E>> {
     ghost key = { λ cell. cell.number };
 
     fn key(&self) -> u32 {
-        self.number
-    }
-}
-
-fn waiting_from<E>(cells: &[Cell<E>], from: usize) -> Option<usize>
-    ensures found { IfSome result (IsFirstWaiting cells.now from) }
-    ensures none { IfNone result (NoneWaitsFrom cells.now from) }
-{
-    for place in from..cells.len() {
-        if cells[place].waiting {
-            return Some(place);
-        }
-    }
-    None
-}
-
-/// The place of the next cell that waits, from a place on, or else from the first one.
-pub fn next_waiting<E>(cells: &[Cell<E>], from: usize) -> Option<usize>
-    ensures found { IfSome result (IsNextWaiting cells.now from) }
-    ensures none { IfNone result (NoneWaitsFrom cells.now 0) }
-{
-    match waiting_from(cells, from) {
-        Some(place) => Some(place),
-        None => waiting_from(cells, 0),
+        self.get().number
     }
 }
 
 /// Joins an entry into the cell of its point, or puts the point in with it.
 pub fn join<E: Lattice + Drop>(
     alloc: Global,
-    cells: &mut Vec<Cell<E>>,
+    cells: &mut Vec<Kept<Cell<E>>>,
     point: Point,
     entry: &E,
 ) -> Result<(), Memory>
@@ -84,20 +64,21 @@ pub fn join<E: Lattice + Drop>(
     ensures { OnOk result (IsJoined E.is_element E.alike E.is_below E.rank cells.old.items point entry.now cells.new.items) }
 {
     match place_of(cells.as_slice(), point.number()) {
-        Ok(place) => cells[place].raise(entry)?,
+        Ok(place) => cells[place].get_mut().raise(entry)?,
         Err(gap) => {
-            let copy = entry.copy(alloc)?;
-            let entry = Kept::new(alloc, copy)?;
-            cells.insert(
-                gap,
+            let entry = entry.copy(alloc)?;
+            let cell = Kept::new(
+                alloc,
                 Cell {
                     point,
                     number: point.number(),
                     waiting: true,
                     entry,
                     before: None,
+                    growth: Growth::new(),
                 },
-            )?
+            )?;
+            cells.insert(gap, cell)?
         }
     }
     Ok(())

@@ -7,6 +7,7 @@ ghost use Rattle.state_flow.specs.{Cells.{IsWaitingCell}, Numbering.{AreNumbered
 
 use crate::cells::Cell;
 use crate::joining::join_groups;
+use crate::kept::Kept;
 use crate::parts::{grow_by_few, rows_to_evaluate};
 use numbered_sets::{NumberedEntry, NumberedRow};
 use osek_values::Memory;
@@ -17,7 +18,7 @@ use std::alloc::Global;
 pub fn turn(
     alloc: Global,
     numbering: &mut Numbering,
-    cells: &mut Vec<Cell<NumberedEntry>>,
+    cells: &mut Vec<Kept<Cell<NumberedEntry>>>,
     place: usize,
 ) -> Result<(), Memory>
     requires masks { HasMasks numbering.old.app.now }
@@ -27,7 +28,7 @@ pub fn turn(
     ensures progress { OnOk result ((n : ℕ) → HasProgress numbering.old.app.now numbering.old.pool cells.old.items n → HasProgress numbering.old.app.now numbering.new.pool cells.new.items (n + 1)) }
 {
     // what updates make of large sets is kept for each point
-    numbering.pool.turn_to(cells[place].number);
+    numbering.pool.turn_to(cells[place].get().number);
     evaluate_point(alloc, numbering, cells, place)
 }
 
@@ -35,7 +36,7 @@ pub fn turn(
 fn evaluate_point(
     alloc: Global,
     numbering: &mut Numbering,
-    cells: &mut Vec<Cell<NumberedEntry>>,
+    cells: &mut Vec<Kept<Cell<NumberedEntry>>>,
     place: usize,
 ) -> Result<(), Memory>
     requires masks { HasMasks numbering.old.app.now }
@@ -55,7 +56,7 @@ fn evaluate_point(
 fn evaluate_news(
     alloc: Global,
     numbering: &mut Numbering,
-    cells: &mut Vec<Cell<NumberedEntry>>,
+    cells: &mut Vec<Kept<Cell<NumberedEntry>>>,
     place: usize,
 ) -> Result<(), Memory>
     requires masks { HasMasks numbering.old.app.now }
@@ -64,7 +65,7 @@ fn evaluate_news(
     ensures grown { IsGrown numbering.old numbering.new }
     ensures progress { OnOk result ((n : ℕ) → HasProgress numbering.old.app.now numbering.old.pool cells.old.items n → HasProgress numbering.old.app.now numbering.new.pool cells.new.items (n + 1)) }
 {
-    let cell = &mut cells[place];
+    let cell = cells[place].get_mut();
     let rows = rows_to_evaluate(alloc, cell)?;
     evaluate_each(alloc, numbering, rows.as_slice(), cells)
 }
@@ -73,7 +74,7 @@ fn evaluate_news(
 fn evaluate_whole(
     alloc: Global,
     numbering: &mut Numbering,
-    cells: &mut Vec<Cell<NumberedEntry>>,
+    cells: &mut Vec<Kept<Cell<NumberedEntry>>>,
     place: usize,
 ) -> Result<(), Memory>
     requires masks { HasMasks numbering.old.app.now }
@@ -82,11 +83,12 @@ fn evaluate_whole(
     ensures grown { IsGrown numbering.old numbering.new }
     ensures progress { OnOk result ((n : ℕ) → HasProgress numbering.old.app.now numbering.old.pool cells.old.items n → HasProgress numbering.old.app.now numbering.new.pool cells.new.items (n + 1)) }
 {
-    let cell = &mut cells[place];
+    let cell = cells[place].get_mut();
     cell.waiting = false;
     cell.before = None;
+    cell.growth.evaluate();
     let app = numbering.app;
-    let groups = exit_groups(alloc, numbering, cell.point, cell.entry.get())?;
+    let groups = exit_groups(alloc, numbering, cell.point, &cell.entry)?;
     join_groups(alloc, app, groups, &numbering.pool, cells)
 }
 
@@ -95,7 +97,7 @@ fn evaluate_each(
     alloc: Global,
     numbering: &mut Numbering,
     rows: &[NumberedRow],
-    cells: &mut Vec<Cell<NumberedEntry>>,
+    cells: &mut Vec<Kept<Cell<NumberedEntry>>>,
 ) -> Result<(), Memory>
     requires masks { HasMasks numbering.old.app.now }
     requires cells { AreNumberedCells numbering.old.app.now numbering.old.pool cells.old.items }
@@ -114,7 +116,7 @@ fn evaluate(
     alloc: Global,
     numbering: &mut Numbering,
     row: &NumberedRow,
-    cells: &mut Vec<Cell<NumberedEntry>>,
+    cells: &mut Vec<Kept<Cell<NumberedEntry>>>,
 ) -> Result<(), Memory>
     requires masks { HasMasks numbering.old.app.now }
     requires cells { AreNumberedCells numbering.old.app.now numbering.old.pool cells.old.items }

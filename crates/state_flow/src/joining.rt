@@ -5,6 +5,7 @@ ghost use Rattle.point_exits.specs.{declared.group.NumberEnd.{NumberEnd}, Groups
 ghost use Rattle.state_flow.specs.{Numbering.{AreNumberedCells}, ExitRows.{rows_at, end_row, rows_with, rows_by, all_rows, AreProperRows, AreRowsJoined, IsPart, AreTogether}};
 
 use crate::cells::Cell;
+use crate::kept::Kept;
 use crate::numbered_cells::put_in;
 use abstract_state::{Point, masks_are_few};
 use numbered_sets::{NumberedEntry, Pool};
@@ -19,7 +20,7 @@ pub fn join_groups(
     app: &App,
     groups: Vec<ExitGroup>,
     pool: &Pool,
-    cells: &mut Vec<Cell<NumberedEntry>>,
+    cells: &mut Vec<Kept<Cell<NumberedEntry>>>,
 ) -> Result<(), Memory>
     requires known { AreKnownGroups pool.now groups.items }
     requires proper { AreProperRows app.now (all_rows pool.now groups.items) }
@@ -38,7 +39,7 @@ fn join_group(
     app: &App,
     group: ExitGroup,
     pool: &Pool,
-    cells: &mut Vec<Cell<NumberedEntry>>,
+    cells: &mut Vec<Kept<Cell<NumberedEntry>>>,
 ) -> Result<(), Memory>
     requires known { IsKnownGroup pool.now group }
     requires proper { AreProperRows app.now (rows_by pool.now group.entry group.ends) }
@@ -60,7 +61,7 @@ fn join_at(
     points: &[Point],
     entry: &NumberedEntry,
     pool: &Pool,
-    cells: &mut Vec<Cell<NumberedEntry>>,
+    cells: &mut Vec<Kept<Cell<NumberedEntry>>>,
 ) -> Result<(), Memory>
     requires known { AreNumbersOf pool.now entry.now }
     requires proper { AreProperRows app.now (rows_at pool.now entry.now points.now) }
@@ -80,7 +81,7 @@ fn join_with(
     ends: &[NumberEnd],
     entry: NumberedEntry,
     pool: &Pool,
-    cells: &mut Vec<Cell<NumberedEntry>>,
+    cells: &mut Vec<Kept<Cell<NumberedEntry>>>,
 ) -> Result<(), Memory>
     requires known { AreNumbersOf pool.now entry }
     requires ends { (x : NumberEnd) → Contains ends.now x → IsKnownEnd pool.now entry x }
@@ -106,7 +107,7 @@ fn join_end(
     end: &NumberEnd,
     entry: &mut NumberedEntry,
     pool: &Pool,
-    cells: &mut Vec<Cell<NumberedEntry>>,
+    cells: &mut Vec<Kept<Cell<NumberedEntry>>>,
 ) -> Result<(), Memory>
     requires known { AreNumbersOf pool.now entry.old }
     requires end { IsKnownEnd pool.now entry.old end.now }

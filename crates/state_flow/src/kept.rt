@@ -1,62 +1,56 @@
 //! A value in memory of its own.
-ghost use Rattle.std.specs.Prelude.{◌≡◌, ◌+◌, IfOk, OnOk};
+ghost use Rattle.std.specs.Prelude.{◌≡◌, IfOk};
 
-use crate::lattice::Lattice;
 use osek_values::Memory;
 use std::alloc::Global;
 use std::marker::Model;
 
 /// A value in memory of its own, which contracts see as the value. Where it stands among others it is moved in no time.
 #[derive(Drop)]
-pub struct Kept<E> {
-    value: Box<E>,
+pub struct Kept<T> {
+    value: Box<T>,
 }
 
-impl<E> Model for Kept<E> {
-    ghost Value = { E };
+impl<T> Model for Kept<T> {
+    ghost Value = { T };
 
     ghost view = { λ k. k.value.value };
 }
 
-impl<E: Lattice + Drop> Kept<E> {
+impl<T: Drop> Kept<T> {
     /// The value, in memory of its own.
-    pub fn new(alloc: Global, value: E) -> Result<Kept<E>, Memory>
+    pub fn new(alloc: Global, value: T) -> Result<Kept<T>, Memory>
         ensures { IfOk result (λ k. k ≡ value) }
     {
         let value = Box::new(alloc, value)?;
         Ok(Kept { value })
     }
+}
+
+impl<T> Kept<T> {
+    ghost use Rattle.std.specs.{Prelude.{◌≡◌}, Borrow.{Lends, sem}};
+    ghost use Rattle.state_flow.specs.contracts.kept.Kept.{the_row};
 
     /// The value.
-    pub fn get(&self) -> &E
+    pub fn get(&self) -> &T
         ensures { result.now ≡ self.now }
     {
         &self.value
     }
 
+    /// The value, to be changed there.
+    pub fn get_mut(&mut self) -> &mut T
+        ensures* writes_back { sem 𝓛 (Lends (the_row T.row) T.row self.entry result (λ x. x)) }
+        ensures value { self.old ≡ result.now }
+    {
+        &mut self.value
+    }
+
     /// The value, out of its memory.
-    pub fn into_value(self) -> E
+    pub fn into_value(self) -> T
         ensures { result ≡ self }
     {
         let Kept { value } = self;
         Box::into_inner(value)
-    }
-}
-
-impl<E: Lattice> Kept<E> {
-    /// Joins another value in, as the lattice does.
-    pub fn join_into(&mut self, other: &E) -> Result<u64, Memory>
-        requires element { E.is_element self.old }
-        requires of_element { E.is_element other.now }
-        requires alike { E.alike self.old other.now }
-        ensures element { E.is_element self.new }
-        ensures stays_alike { E.alike self.old self.new }
-        ensures grows { E.is_below self.old self.new }
-        ensures least { (z : E) → E.is_below self.old z → E.is_below other.now z → E.is_below self.new z }
-        ensures joins { OnOk result (E.is_below other.now self.new) }
-        ensures count { IfOk result (λ n. E.rank self.new ≡ E.rank self.old + n) }
-        ensures same { IfOk result (λ n. n ≡ 0 → self.new ≡ self.old) }
-    {
-        self.value.join_into(other)
     }
 }

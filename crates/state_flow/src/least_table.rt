@@ -5,8 +5,10 @@ ghost use Rattle.abstract_state.specs.{Domains.{HasMasks, domains as domains_of_
 ghost use Rattle.numbered_sets.specs.Pools.{pool_domains, IsLonger};
 ghost use Rattle.state_flow.specs.{Cells.{IsWaitingCell}, Progress.{Progress}, PlainCells.{plain_cells, AreCellsOf}, Numbering.{AreNumberedCells, HasProgress}};
 
-use crate::cells::{Cell, next_waiting};
+use crate::agenda::Agenda;
+use crate::cells::Cell;
 use crate::evaluation::turn;
+use crate::kept::Kept;
 use crate::numbered_cells::{put_in, rows};
 use abstract_state::{Domain, LiveVal, PartValue, PlainEntry, Val, masks_are_few};
 use numbered_sets::{NumberedEntry, Pool, Table, numbered};
@@ -15,7 +17,6 @@ use osek_values::{BlockNo, Held, Memory, ModeNo, Steps};
 use point_exits::{Numbering, start_row};
 use std::alloc::Global;
 use std::sync::ledger::Ledger;
-use table_rows::place_behind;
 
 /// The least table: the starts are in it, each step from a state in it leads to one in it, and every such table contains
 /// it. A step is counted for each evaluation of a point.
@@ -32,13 +33,10 @@ pub fn solve<L: Ledger>(alloc: Global, app: &App, steps: &mut Steps<L>) -> Resul
     let mut pool = pool_of(alloc, app)?;
     let mut cells = started(alloc, app, &mut pool)?;
     let mut numbering = Numbering::new(alloc, app, pool)?;
-    let mut from = 0;
-    // sweeps upward over the points: what a point leads to stands mostly above it
-    while let Some(place) = next_waiting(cells.as_slice(), from) {
+    let mut agenda = Agenda::new();
+    while let Some(place) = agenda.next(cells.as_slice()) {
         steps.tick();
-        let point = cells[place].point;
         turn(alloc, &mut numbering, &mut cells, place)?;
-        from = place_behind(cells.as_slice(), point.number());
     }
     let rows = rows(alloc, cells)?;
     Ok(Table::of(numbering.pool, rows))
@@ -107,7 +105,11 @@ fn domains(alloc: Global, entry: &PlainEntry) -> Result<Vec<Domain>, Memory>
 }
 
 /// The points of the starts, which wait.
-fn started(alloc: Global, app: &App, pool: &mut Pool) -> Result<Vec<Cell<NumberedEntry>>, Memory>
+fn started(
+    alloc: Global,
+    app: &App,
+    pool: &mut Pool,
+) -> Result<Vec<Kept<Cell<NumberedEntry>>>, Memory>
     requires { pool_domains pool.old ≡ domains_of app.now }
     ensures pool { OnOk result (IsLonger pool.old pool.new) }
     ensures progress { IfOk result (λ cells. HasProgress app.now pool.new cells.items 0) }

@@ -1,6 +1,7 @@
 //! The least table of an application: lattices, the points that are reached, and the rounds until no entry grows.
 #![tactic(auto)]
 
+mod agenda;
 mod cells;
 mod counts;
 mod entry;

@@ -5,6 +5,7 @@ ghost use Rattle.point_exits.specs.Rows.{IsProperRow};
 ghost use Rattle.state_flow.specs.{Progress.{AreJoined}, PlainCells.{plain_cells, numbered_row, AreCellsOf}, Numbering.{AreNumberedCells}};
 
 use crate::cells::{Cell, join};
+use crate::kept::Kept;
 use abstract_state::Point;
 use numbered_sets::{NumberedEntry, NumberedRow, Pool};
 use osek_standard::App;
@@ -16,7 +17,7 @@ pub fn put_in(
     alloc: Global,
     app: &App,
     pool: &Pool,
-    cells: &mut Vec<Cell<NumberedEntry>>,
+    cells: &mut Vec<Kept<Cell<NumberedEntry>>>,
     point: Point,
     entry: &NumberedEntry,
 ) -> Result<(), Memory>
@@ -31,14 +32,18 @@ pub fn put_in(
 }
 
 /// The rows of cells.
-pub fn rows(alloc: Global, cells: Vec<Cell<NumberedEntry>>) -> Result<Seq<NumberedRow>, Memory>
+pub fn rows(
+    alloc: Global,
+    cells: Vec<Kept<Cell<NumberedEntry>>>,
+) -> Result<Seq<NumberedRow>, Memory>
     ensures { IfOk result (λ rows. rows ≡ map numbered_row cells.items) }
 {
     let mut rows = Seq::of(Vec::with_capacity(alloc, cells.len())?);
     for cell in cells {
+        let cell = cell.into_value();
         rows.push(NumberedRow {
             point: cell.point,
-            entry: cell.entry.into_value(),
+            entry: cell.entry,
         })?;
     }
     Ok(rows)

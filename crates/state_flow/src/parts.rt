@@ -39,16 +39,17 @@ pub fn rows_to_evaluate(
     ensures rows { IfOk result (λ rows. AreRowsBeside cell.old.point cell.old.entry cell.old.before rows.items) }
 {
     cell.waiting = false;
+    cell.growth.evaluate();
     let before = cell.before.take();
-    let entry = cell.entry.get().copy(alloc)?;
+    let entry = cell.entry.copy(alloc)?;
     cell.before = Some(Kept::new(alloc, entry)?);
     let Some(before) = before else {
-        return whole(alloc, cell.point, cell.entry.get());
+        return whole(alloc, cell.point, &cell.entry);
     };
-    if grown_count(cell.entry.get(), before.get()) > FEW {
-        return whole(alloc, cell.point, cell.entry.get());
+    if grown_count(&cell.entry, before.get()) > FEW {
+        return whole(alloc, cell.point, &cell.entry);
     }
-    grown_rows(alloc, cell.point, cell.entry.get(), before.get())
+    grown_rows(alloc, cell.point, &cell.entry, before.get())
 }
 
 // one row with all numbers

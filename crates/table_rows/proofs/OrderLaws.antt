@@ -1,9 +1,9 @@
 -- Lists in the order of their keys: where an element stands or belongs, what halving finds, and what edits leave.
-use Rattle.std.proofs.Common.{◌≡◌, ◌≢◌, ℕ, ◌<◌, ◌≤◌, true, false, List, [], length, get_or, ltb, leb, set, sym, ap, subst, ◌∙◌, inl, inr, arith}
+use Rattle.std.proofs.Common.{◌≡◌, ◌≢◌, ℕ, ◌<◌, ◌≤◌, true, false, List, [], length, get_or, ltb, set, sym, ap, subst, ◌∙◌, inl, inr, arith}
 use Rattle.std.proofs.Common.{get_or-set_same, get_or-set_other}
 use Rattle.std.specs.{Prelude.{Contains}, List.{insert, Sorted.{IsPartitionedBy, IsPartitionPoint}}}
-use Rattle.std.proofs.lemmas.{Bool.{cases_eq, cases_lt, cases_order, lt-ltb, ltb-true, ltb-false, le-leb, leb-true, leb-false}, List.{length-set, get_or_default}}
-use Rattle.table_rows.specs.Order.{AscendBy, IsPlaceBy, IsGapBy, IsBehindBy}
+use Rattle.std.proofs.lemmas.{Bool.{cases_eq, cases_lt, cases_order, lt-ltb, ltb-true, ltb-false}, List.{length-set, get_or_default}}
+use Rattle.table_rows.specs.Order.{AscendBy, IsPlaceBy, IsGapBy}
 use Rattle.table_rows.proofs.ListEdits.{pairs_insert}
 
 module _ {X : Type 0} (key : X → ℕ) where
@@ -44,12 +44,6 @@ module _ {X : Type 0} (key : X → ℕ) where
     }
 
     -- the elements up to a key come first
-    pub parted_behind : (n : ℕ) → IsPartitionedBy (λ (x : X). leb (key x) n) xs
-    parted_behind n i j d le lt below = elim (cases_eq i j) [
-      | inl same ↦ (ap (λ (k : ℕ). leb (key (get_or xs k d)) n) same ∙ below)
-      | inr other ↦ le-leb (key (get_or xs i d)) n (omega (arith, order.before i j d (omega (arith, le, other)) lt, leb-true (key (get_or xs j d)) n below))
-    ]
-
     -- the element at a key's place alone has it
     pub only_place : (n place : ℕ) → IsPlaceBy key xs n place → (k : ℕ) (x : X) → k < length xs → get_or xs k x ≡ x → key x ≡ n → k ≡ place
     only_place n place at k x within is same = elim (cases_order k place) [
@@ -83,14 +77,6 @@ module _ {X : Type 0} (key : X → ℕ) where
     ascend_insert gap v at = record { before = pairs_insert xs gap v at.known (λ x y. key x < key y) order.before at.below at.above }
 
   module _ (xs : List X) where
-    pub behind_found : (n place : ℕ) → place ≤ length xs
-        → IsPartitionPoint (λ (x : X). leb (key x) n ≡ true) (λ (x : X). leb (key x) n ≡ false) xs place → IsBehindBy key xs n place
-    behind_found n place known parts = record {
-      known = known;
-      below = λ k d lt. leb-true (key (get_or xs k d)) n (parts.0 k d (omega arith) lt);
-      above = λ k d from lt. leb-false (key (get_or xs k d)) n (parts.1 k d from lt);
-    }
-
     -- a key that has a gap is no element's
     pub none_there : (n gap : ℕ) → IsGapBy key xs n gap → (x : X) → Contains xs x → key x ≡ n → ⊥
     none_there n gap at x h is = elim (cases_lt h.0 gap) [

@@ -16,9 +16,3 @@ module _ {X : Type 0} (key : X → ℕ) where
     pub known : gap ≤ length xs
     pub below : (k : ℕ) (d : X) → k < gap → key (slice_index_or xs k d) < n
     pub above : (k : ℕ) (d : X) → gap ≤ k → k < length xs → n < key (slice_index_or xs k d)
-
-  -- the elements before the place have keys up to this one, and the others have higher ones
-  pub record IsBehindBy (xs : List X) (n place : ℕ) : Type 0 where
-    pub known : place ≤ length xs
-    pub below : (k : ℕ) (d : X) → k < place → key (slice_index_or xs k d) ≤ n
-    pub above : (k : ℕ) (d : X) → place ≤ k → k < length xs → n < key (slice_index_or xs k d)

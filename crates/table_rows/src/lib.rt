@@ -6,5 +6,5 @@ mod order;
 mod row_exits;
 
 pub use fold::{RowFold, fold_rows};
-pub use order::{Keyed, place_behind, place_of};
+pub use order::{Keyed, place_of};
 pub use row_exits::row_groups;

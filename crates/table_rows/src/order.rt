@@ -1,6 +1,6 @@
 //! Lists in the order of their keys, in which a key is found by halving.
 ghost use Rattle.std.specs.Prelude.{◌≡◌, ◌<◌, ℕ, IfOk, IfErr};
-ghost use Rattle.table_rows.specs.Order.{AscendBy, IsPlaceBy, IsGapBy, IsBehindBy};
+ghost use Rattle.table_rows.specs.Order.{AscendBy, IsPlaceBy, IsGapBy};
 
 use numbered_sets::NumberedRow;
 use osek_standard::Point;
@@ -47,12 +47,4 @@ pub fn place_of<X: Keyed>(xs: &[X], key: u32) -> Result<usize, usize>
     } else {
         Err(place)
     }
-}
-
-/// The first place behind the elements with keys up to one.
-pub fn place_behind<X: Keyed>(xs: &[X], key: u32) -> usize
-    requires { AscendBy X.key xs.now }
-    ensures { IsBehindBy X.key xs.now key result }
-{
-    xs.partition_point(|x| x.key() <= key)
 }

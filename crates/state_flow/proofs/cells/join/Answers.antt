@@ -1,4 +1,4 @@
-use Rattle.std.proofs.{Common.{refl, ◌∙◌, subst}, lemmas.List.{get_or_read}}
+use Rattle.std.proofs.{Common.{refl, sym, ◌∙◌, subst}, lemmas.List.{get_or_read}}
 use Rattle.state_flow.specs.{declared.cells.Cell.{Cell}, Cells.{IsRaised}}
 use Rattle.state_flow.proofs.CellLists.{by_told, place_told, gap_told, joined_there, joined_new}
 use Rattle.state_flow.proofs.cells.join.Goals as goal
@@ -13,12 +13,12 @@ returns-in_ok-raise-in-Ok g c =
     let at = place_told c.args.cells.now.items c.requires.order _ c.in-Ok.place told in
     let old = get_or_read c.args.cells.now.items c.in-Ok.place c.index_mut.result.now at.known c.index_mut.ensures.value c.raise.new.self in
     joined_there L.is_element L.alike L.is_below L.rank g.met.E.Lattice.reflexive c.args.cells.now.items c.args.point c.args.entry.now c.requires.order c.requires.may c.in-Ok.place c.raise.new.self at
-    (subst (λ (x : Cell g.row.E.Denot). IsRaised L.is_element L.alike L.is_below L.rank x c.args.entry.now c.raise.new.self) old c.in_ok-raise-in-Ok.ensures)
+    (subst (λ (x : Cell g.row.E.Denot). IsRaised L.is_element L.alike L.is_below L.rank x c.args.entry.now c.raise.new.self) (sym c.get_mut.ensures.value ∙ old) c.in_ok-raise-in-Ok.ensures)
 
 pub returns-in_ok-insert-in-Err : goal.returns-in_ok-insert-in-Err
 returns-in_ok-insert-in-Err g c =
     let L = g.E.Lattice in
     let told = rw (c.as_slice.ensures.value, c.number.ensures) at c.in-Err.ensures.gap in
     let at = gap_told c.args.cells.now.items c.requires.order _ c.in-Err.gap told in
-    rw c.in_ok-insert-in-Err.ensures.items
-    (joined_new L.is_element L.alike L.is_below L.rank g.met.E.Lattice.reflexive c.args.cells.now.items c.args.point c.args.entry.now c.requires.order c.requires.may c.in-Err.gap _ refl (c.in_ok-entry-in-Err.ensures ∙ c.in_ok-copy-in-Err.ensures) refl refl c.number-in-Err.ensures at)
+    rw (c.in_ok-insert-in-Err.ensures.items, c.in_ok-cell-in-Err.ensures)
+    (joined_new L.is_element L.alike L.is_below L.rank g.met.E.Lattice.reflexive c.args.cells.now.items c.args.point c.args.entry.now c.requires.order c.requires.may c.in-Err.gap _ refl c.in_ok-entry-in-Err.ensures refl refl c.number-in-Err.ensures at)

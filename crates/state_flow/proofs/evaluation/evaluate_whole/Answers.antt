@@ -2,9 +2,8 @@ use Rattle.std.proofs.Common.{None, List, [], ◌∷◌, set, refl, sym, subst}
 use Rattle.std.proofs.lemmas.Result.{on_ok_weaker}
 use Rattle.abstract_state.specs.declared.table.PlainEntry.{PlainEntry}
 use Rattle.numbered_sets.specs.{declared.table.NumberedRow.{NumberedRow}, PlainTables.{plain_row}}
-use Rattle.point_exits.specs.PointNumbers.{AreNumbersAt}
 use Rattle.state_flow.specs.{declared.cells.Cell.{Cell}, Progress.{AreJoined}, PlainCells.{plain_cells}, ExitRows.{all_rows}}
-use Rattle.state_flow.proofs.NumberedCells.{asked, nothing_kept, numbers_there, proper_there, asked_cells, progress_on, cells_on, cells_same}
+use Rattle.state_flow.proofs.NumberedCells.{lent_there, asked, nothing_kept, numbers_there, proper_there, asked_cells, progress_on, cells_on, cells_same}
 use Rattle.state_flow.proofs.{GrownParts.{whole_beside}, EvaluatedExits.{numbers_filled, rows_lead, rows_proper}, Evaluations.{evaluated_one}}
 use Rattle.state_flow.proofs.evaluation.evaluate_whole.Goals as goal
 
@@ -12,13 +11,11 @@ pub exit_groups-requires : goal.exit_groups-requires
 exit_groups-requires c =
     let app = c.args.numbering.now.app.now in
     let pool = c.args.numbering.now.pool in
-    let cell = c.index_mut-cell.result.now in
-    let here = sym c.index_mut-cell.ensures.value in
+    let cell = c.get_mut-cell.result.now in
+    let here = lent_there c.args.cells.now.items c.args.place c.index_mut-cell.result.now c.get_mut-cell.result.now c.get_mut-cell.ensures.value c.index_mut-cell.ensures.value in
     let numbers = numbers_there app pool c.args.cells.now.items c.args.place cell c.requires.cells c.requires.waits here in
     let proper = proper_there app pool c.args.cells.now.items c.args.place cell c.requires.cells c.requires.waits here in
-    let at : AreNumbersAt app cell.point pool cell.entry =
-    record { point = proper.row.point; numbers = numbers; filled = numbers_filled app c.requires.masks cell.point pool cell.entry numbers proper; allowed = proper.allowed } in
-    rw c.get.ensures at
+    record { point = proper.row.point; numbers = numbers; filled = numbers_filled app c.requires.masks cell.point pool cell.entry numbers proper; allowed = proper.allowed }
 
 pub join_groups-requires-clause-known : goal.join_groups-requires-clause-known
 join_groups-requires-clause-known c = c.in_ok-groups.ensures.known
@@ -27,28 +24,28 @@ pub join_groups-requires-clause-proper : goal.join_groups-requires-clause-proper
 join_groups-requires-clause-proper c =
     let app = c.args.numbering.now.app.now in
     let pool = c.args.numbering.now.pool in
-    let cell = c.index_mut-cell.result.now in
-    let here = sym c.index_mut-cell.ensures.value in
+    let cell = c.get_mut-cell.result.now in
+    let here = lent_there c.args.cells.now.items c.args.place c.index_mut-cell.result.now c.get_mut-cell.result.now c.get_mut-cell.ensures.value c.index_mut-cell.ensures.value in
     let numbers = numbers_there app pool c.args.cells.now.items c.args.place cell c.requires.cells c.requires.waits here in
     rows_proper app c.requires.masks cell.point pool cell.entry numbers (proper_there app pool c.args.cells.now.items c.args.place cell c.requires.cells c.requires.waits here)
-    c.exit_groups.new.numbering.pool c.exit_groups.ensures.grown.pool c.in_ok-groups.groups.items c.in_ok-groups.ensures.known (rw c.get.ensures at c.in_ok-groups.ensures.exits)
+    c.exit_groups.new.numbering.pool c.exit_groups.ensures.grown.pool c.in_ok-groups.groups.items c.in_ok-groups.ensures.known c.in_ok-groups.ensures.exits
 
 pub join_groups-requires-clause-cells : goal.join_groups-requires-clause-cells
 join_groups-requires-clause-cells c =
     let app = c.args.numbering.now.app.now in
     let pool = c.args.numbering.now.pool in
     let cells = c.args.cells.now.items in
-    let cell = c.index_mut-cell.result.now in
+    let cell = c.get_mut-cell.result.now in
     cells_on app pool c.exit_groups.new.numbering.pool (set cells c.args.place (asked cell None)) c.exit_groups.ensures.grown.pool
-    (asked_cells app pool cells c.args.place cell c.requires.cells c.requires.waits (sym c.index_mut-cell.ensures.value) None (nothing_kept cell))
+    (asked_cells app pool cells c.args.place cell c.requires.cells c.requires.waits (lent_there c.args.cells.now.items c.args.place c.index_mut-cell.result.now c.get_mut-cell.result.now c.get_mut-cell.ensures.value c.index_mut-cell.ensures.value) None (nothing_kept cell))
 
 pub returns-clause-progress : goal.returns-clause-progress
 returns-clause-progress c =
     let app = c.args.numbering.now.app.now in
     let pool = c.args.numbering.now.pool in
     let cells = c.args.cells.now.items in
-    let cell = c.index_mut-cell.result.now in
-    let here = sym c.index_mut-cell.ensures.value in
+    let cell = c.get_mut-cell.result.now in
+    let here = lent_there c.args.cells.now.items c.args.place c.index_mut-cell.result.now c.get_mut-cell.result.now c.get_mut-cell.ensures.value c.index_mut-cell.ensures.value in
     let after = c.exit_groups.new.numbering.pool in
     let longer = c.exit_groups.ensures.grown.pool in
     let groups = c.in_ok-groups.groups.items in
@@ -62,6 +59,6 @@ returns-clause-progress c =
     (λ joined. progress_on app pool cells c.args.place cell c.requires.cells c.requires.waits here None (nothing_kept cell) (row ∷ []) after end joined.known
     (whole_beside cell.point cell.entry (numbers_filled app c.requires.masks cell.point pool cell.entry numbers proper) row refl refl cell.before)
     (evaluated_one app (plain_row pool row) (all_rows after groups) (plain_cells pool now) (plain_cells after end)
-    (rows_lead app c.requires.masks cell.point pool cell.entry numbers proper after longer groups c.in_ok-groups.ensures.known (rw c.get.ensures at c.in_ok-groups.ensures.exits))
+    (rows_lead app c.requires.masks cell.point pool cell.entry numbers proper after longer groups c.in_ok-groups.ensures.known c.in_ok-groups.ensures.exits)
     (subst (λ (xs : List (Cell PlainEntry)). AreJoined app xs (all_rows after groups) (plain_cells after end)) (cells_same pool after now longer waits_no_more.known) joined.joined)))
     c.join_groups.ensures

@@ -2,11 +2,10 @@ use Rattle.std.proofs.Common.{◌≡◌, ℕ, ◌∙◌, ◌+◌, ◌*◌, ◌<�
 use Rattle.osek_standard.specs.{declared.app.App.{App}, Counts.{points, height}}
 use Rattle.abstract_state.specs.{declared.table.PlainTable.{PlainTable}, Domains.{HasMasks}, Tables.{Least, sets_of, value_count}, Written.{IsWritten}}
 use Rattle.numbered_sets.specs.{declared.numbered_entry.NumberedEntry.{NumberedEntry}, Pools.{Values}}
-use Rattle.table_rows.specs.Order.{AscendBy}
-use Rattle.state_flow.specs.{declared.cells.Cell.{Cell}, Cells.{IsWaitingCell, IsNextWaiting, NoneWaitsFrom}, Rows.{table_of}}
-use Rattle.state_flow.proofs.{CellLists.{by_told, next_waits}, RowLaws.{written}, Closing.{least_at_end}, Bounds.{room, values_few, rows_evaluated, evaluations_few}}
+use Rattle.state_flow.specs.{declared.cells.Cell.{Cell}, Cells.{IsWaitingCell, NoneWaits}, Rows.{table_of}}
+use Rattle.state_flow.proofs.{RowLaws.{written}, Closing.{least_at_end}, Bounds.{room, values_few, rows_evaluated, evaluations_few}}
 use Rattle.state_flow.specs.{PlainCells.{plain_cells}, Numbering.{AreNumberedCells, HasProgress}}
-use Rattle.state_flow.proofs.{NumberedCells.{numbered_order, waits_plain, none_waits_plain}, CellRows.{rows_known, table_alike}}
+use Rattle.state_flow.proofs.{NumberedCells.{waits_plain, none_waits_plain}, CellRows.{rows_known, table_alike}}
 use Rattle.state_flow.proofs.least_table.solve.Goals as goal
 
 pub started-requires : goal.started-requires
@@ -38,17 +37,11 @@ turned : (app own : App) (pool after : List Values) (cells end : List (Cell Numb
 turned app own pool after cells end n same turn h =
     subst (λ (x : App). HasProgress x after end (n + 1)) same (turn n (subst (λ (x : App). HasProgress x pool cells n) (sym same) h))
 
-pub place_behind-from-requires : goal.place_behind-from-requires
-place_behind-from-requires g c =
-    let now = turned c.args.app.now c.loop-place.numbering.app.now c.loop-place.numbering.pool c.turn.new.numbering.pool c.loop-place.cells.items c.turn.new.cells.items c.loop-place.invariant.0 c.loop-place.invariant.3 c.in_ok-turn.ensures.progress c.loop-place.invariant.2 in
-    subst (AscendBy (λ (cell : Cell NumberedEntry). cell.number)) (sym c.as_slice-in-Some.ensures.value)
-    (by_told c.turn.new.cells.items (numbered_order c.turn.new.numbering.pool c.turn.new.cells.items now.progress.cells_proper.order))
-
 pub loop-place-smaller : goal.loop-place-smaller
 loop-place-smaller g c =
     let cells = c.loop-place.cells.items in
     let pool = c.loop-place.numbering.pool in
-    let waits : IsWaitingCell cells c.in-Some.place = next_waits cells c.loop-place.from c.in-Some.place (subst (λ (xs : List (Cell NumberedEntry)). IsNextWaiting xs c.loop-place.from c.in-Some.place) c.as_slice.ensures.value c.in-Some.ensures.found) in
+    let waits : IsWaitingCell cells c.in-Some.place = subst (λ (xs : List (Cell NumberedEntry)). IsWaitingCell xs c.in-Some.place) c.as_slice.ensures.value c.in-Some.ensures.waits in
     let left : c.loop-place.invariant.0 < points c.args.app.now + points c.args.app.now * height c.args.app.now =
     room c.args.app.now c.masks_are_few.ensures (plain_cells pool cells) c.loop-place.invariant.0 c.in-Some.place c.loop-place.invariant.2.progress (waits_plain pool cells c.in-Some.place waits) in
     let steps = c.loop-place.invariant.1 in
@@ -76,8 +69,8 @@ pub returns-clause-least : goal.returns-clause-least
 returns-clause-least g c =
     let cells = plain_cells c.loop-place.numbering.pool c.loop-place.cells.items in
     let table = table_alike c.loop-place.numbering.pool c.loop-place.cells.items c.in_ok-rows.rows c.in_ok-rows.ensures c.of.result c.of.ensures in
-    let none : NoneWaitsFrom cells 0 =
-    none_waits_plain c.loop-place.numbering.pool c.loop-place.cells.items 0 (subst (λ (xs : List (Cell NumberedEntry)). NoneWaitsFrom xs 0) c.as_slice.ensures.value c.in_default.ensures.none) in
+    let none : NoneWaits cells =
+    none_waits_plain c.loop-place.numbering.pool c.loop-place.cells.items (subst (λ (xs : List (Cell NumberedEntry)). NoneWaits xs) c.as_slice.ensures.value c.in_default.ensures.none) in
     subst (λ (t : PlainTable). Least c.args.app.now (sets_of t)) (sym table) (least_at_end c.args.app.now cells c.loop-place.invariant.0 c.loop-place.invariant.2.progress none)
 
 pub returns-clause-values : goal.returns-clause-values
@@ -92,8 +85,8 @@ pub returns-clause-each_once : goal.returns-clause-each_once
 returns-clause-each_once g c =
     let cells = plain_cells c.loop-place.numbering.pool c.loop-place.cells.items in
     let table = table_alike c.loop-place.numbering.pool c.loop-place.cells.items c.in_ok-rows.rows c.in_ok-rows.ensures c.of.result c.of.ensures in
-    let none : NoneWaitsFrom cells 0 =
-    none_waits_plain c.loop-place.numbering.pool c.loop-place.cells.items 0 (subst (λ (xs : List (Cell NumberedEntry)). NoneWaitsFrom xs 0) c.as_slice.ensures.value c.in_default.ensures.none) in
+    let none : NoneWaits cells =
+    none_waits_plain c.loop-place.numbering.pool c.loop-place.cells.items (subst (λ (xs : List (Cell NumberedEntry)). NoneWaits xs) c.as_slice.ensures.value c.in_default.ensures.none) in
     let steps = c.loop-place.invariant.1 in
     omega (arith, steps, ap (λ (t : PlainTable). length t.rows) table, rows_evaluated c.args.app.now cells c.loop-place.invariant.0 c.loop-place.invariant.2.progress none)
 
@@ -101,8 +94,8 @@ pub returns-clause-few : goal.returns-clause-few
 returns-clause-few g c =
     let cells = plain_cells c.loop-place.numbering.pool c.loop-place.cells.items in
     let table = table_alike c.loop-place.numbering.pool c.loop-place.cells.items c.in_ok-rows.rows c.in_ok-rows.ensures c.of.result c.of.ensures in
-    let none : NoneWaitsFrom cells 0 =
-    none_waits_plain c.loop-place.numbering.pool c.loop-place.cells.items 0 (subst (λ (xs : List (Cell NumberedEntry)). NoneWaitsFrom xs 0) c.as_slice.ensures.value c.in_default.ensures.none) in
+    let none : NoneWaits cells =
+    none_waits_plain c.loop-place.numbering.pool c.loop-place.cells.items (subst (λ (xs : List (Cell NumberedEntry)). NoneWaits xs) c.as_slice.ensures.value c.in_default.ensures.none) in
     let steps = c.loop-place.invariant.1 in
     let same = ap value_count table in
     omega (arith, steps, same, evaluations_few c.args.app.now cells c.loop-place.invariant.0 c.loop-place.invariant.2.progress none)
