@@ -1,4 +1,4 @@
-use Rattle.std.proofs.Common.{None, List, [], ◌∷◌, set, refl, sym, subst}
+use Rattle.std.proofs.Common.{None, List, [], ◌∷◌, set, refl, subst}
 use Rattle.std.proofs.lemmas.Result.{on_ok_weaker}
 use Rattle.abstract_state.specs.declared.table.PlainEntry.{PlainEntry}
 use Rattle.numbered_sets.specs.{declared.table.NumberedRow.{NumberedRow}, PlainTables.{plain_row}}
@@ -12,7 +12,7 @@ exit_groups-requires c =
     let app = c.args.numbering.now.app.now in
     let pool = c.args.numbering.now.pool in
     let cell = c.get_mut-cell.result.now in
-    let here = lent_there c.args.cells.now.items c.args.place c.index_mut-cell.result.now c.get_mut-cell.result.now c.get_mut-cell.ensures.value c.index_mut-cell.ensures.value in
+    let here = lent_there c.args.cells.now.items c.args.place c.index_mut.result.now c.get_mut-cell.result.now c.get_mut-cell.ensures.value c.index_mut.ensures.value in
     let numbers = numbers_there app pool c.args.cells.now.items c.args.place cell c.requires.cells c.requires.waits here in
     let proper = proper_there app pool c.args.cells.now.items c.args.place cell c.requires.cells c.requires.waits here in
     record { point = proper.row.point; numbers = numbers; filled = numbers_filled app c.requires.masks cell.point pool cell.entry numbers proper; allowed = proper.allowed }
@@ -25,7 +25,7 @@ join_groups-requires-clause-proper c =
     let app = c.args.numbering.now.app.now in
     let pool = c.args.numbering.now.pool in
     let cell = c.get_mut-cell.result.now in
-    let here = lent_there c.args.cells.now.items c.args.place c.index_mut-cell.result.now c.get_mut-cell.result.now c.get_mut-cell.ensures.value c.index_mut-cell.ensures.value in
+    let here = lent_there c.args.cells.now.items c.args.place c.index_mut.result.now c.get_mut-cell.result.now c.get_mut-cell.ensures.value c.index_mut.ensures.value in
     let numbers = numbers_there app pool c.args.cells.now.items c.args.place cell c.requires.cells c.requires.waits here in
     rows_proper app c.requires.masks cell.point pool cell.entry numbers (proper_there app pool c.args.cells.now.items c.args.place cell c.requires.cells c.requires.waits here)
     c.exit_groups.new.numbering.pool c.exit_groups.ensures.grown.pool c.in_ok-groups.groups.items c.in_ok-groups.ensures.known c.in_ok-groups.ensures.exits
@@ -37,7 +37,7 @@ join_groups-requires-clause-cells c =
     let cells = c.args.cells.now.items in
     let cell = c.get_mut-cell.result.now in
     cells_on app pool c.exit_groups.new.numbering.pool (set cells c.args.place (asked cell None)) c.exit_groups.ensures.grown.pool
-    (asked_cells app pool cells c.args.place cell c.requires.cells c.requires.waits (lent_there c.args.cells.now.items c.args.place c.index_mut-cell.result.now c.get_mut-cell.result.now c.get_mut-cell.ensures.value c.index_mut-cell.ensures.value) None (nothing_kept cell))
+    (asked_cells app pool cells c.args.place cell c.requires.cells c.requires.waits (lent_there c.args.cells.now.items c.args.place c.index_mut.result.now c.get_mut-cell.result.now c.get_mut-cell.ensures.value c.index_mut.ensures.value) None (nothing_kept cell))
 
 pub returns-clause-progress : goal.returns-clause-progress
 returns-clause-progress c =
@@ -45,7 +45,7 @@ returns-clause-progress c =
     let pool = c.args.numbering.now.pool in
     let cells = c.args.cells.now.items in
     let cell = c.get_mut-cell.result.now in
-    let here = lent_there c.args.cells.now.items c.args.place c.index_mut-cell.result.now c.get_mut-cell.result.now c.get_mut-cell.ensures.value c.index_mut-cell.ensures.value in
+    let here = lent_there c.args.cells.now.items c.args.place c.index_mut.result.now c.get_mut-cell.result.now c.get_mut-cell.ensures.value c.index_mut.ensures.value in
     let after = c.exit_groups.new.numbering.pool in
     let longer = c.exit_groups.ensures.grown.pool in
     let groups = c.in_ok-groups.groups.items in
