@@ -243,6 +243,13 @@ unfolding bits_of_words
 bits_widened [] n = none_of n
 bits_widened (w ∷ ws) n = ap (λ m. w + 2 ^ 64 * m) (bits_widened ws n)
 
+-- a word at each place; past the end it is 0
+pub word_widened : (ws : List ℕ) (i : ℕ) → get_or (ws ++ replicate 1 0) i 0 ≡ get_or ws i 0
+word_widened [] zero = refl
+word_widened [] (suc i) = refl
+word_widened (w ∷ ws) zero = refl
+word_widened (w ∷ ws) (suc i) = word_widened ws i
+
 -- a bit more, and bits of both
 pub bits_put : (ws vs : List ℕ) (x : ℕ) → AreWords ws → AreWords vs → ((n : ℕ) → word_has vs n ≡ (word_has ws n || n == x)) → bits_of_words vs ≡ bit_or (bits_of_words ws) (2 ^ x)
 bits_put ws vs x small too h = same_bits (bits_of_words vs) (bit_or (bits_of_words ws) (2 ^ x)) (λ n.

@@ -37,6 +37,8 @@ pub fn has(words: &[u64], number: usize) -> bool
 /// Makes room for so many words. No bit changes.
 pub fn widen(words: &mut Vec<u64>, count: usize) -> Result<(), Memory>
     ensures room { OnOk result (count ≤ length words.new.items) }
+    ensures few { (n : ℕ) → length words.old.items ≤ n → count ≤ n → length words.new.items ≤ n }
+    ensures words { (i : ℕ) → slice_index_or words.new.items i 0 ≡ slice_index_or words.old.items i 0 }
     ensures same { bits_of_words words.new.items ≡ bits_of_words words.old.items }
 {
     for _length in words.len()..count {
@@ -48,12 +50,27 @@ pub fn widen(words: &mut Vec<u64>, count: usize) -> Result<(), Memory>
 /// The same for words that seldom grow: it takes no more memory than they need.
 pub fn widen_exactly(words: &mut Vec<u64>, count: usize) -> Result<(), Memory>
     ensures room { OnOk result (count ≤ length words.new.items) }
+    ensures few { (n : ℕ) → length words.old.items ≤ n → count ≤ n → length words.new.items ≤ n }
+    ensures words { (i : ℕ) → slice_index_or words.new.items i 0 ≡ slice_index_or words.old.items i 0 }
     ensures same { bits_of_words words.new.items ≡ bits_of_words words.old.items }
 {
     if count > words.len() {
         words.reserve_exact(count - words.len())?;
     }
     widen(words, count)
+}
+
+/// Makes room for a word at a place, if it has a bit. No bit changes.
+pub fn widen_for(words: &mut Vec<u64>, place: usize, word: u64) -> Result<(), Memory>
+    requires { place + 1 < 2 ^ 64 }
+    ensures room { OnOk result (length words.new.items ≤ place → word ≡ 0) }
+    ensures few { (n : ℕ) → length words.old.items ≤ n → place < n → length words.new.items ≤ n }
+    ensures words { (i : ℕ) → slice_index_or words.new.items i 0 ≡ slice_index_or words.old.items i 0 }
+{
+    if word == 0 {
+        return Ok(());
+    }
+    widen_exactly(words, place + 1)
 }
 
 /// Takes off the words without a bit at the end. No bit changes.
@@ -296,13 +313,35 @@ pub fn leave_out_at(words: &mut [u64], place: usize, other: u64)
     }
 }
 
-/// Whether each word has a bit, or the one at its place among others.
+/// Whether each word has a bit, or the one at its place among others. These may be fewer.
 pub fn have_bits(words: &[u64], other: &[u64]) -> bool
-    requires { length other.now ≡ length words.now }
     ensures { OnTrue result ((i : ℕ) → i < length words.now → 0 < slice_index_or words.now i 0 + slice_index_or other.now i 0) }
 {
+    let both = other.len().min(words.len());
+    each_has_bit(words, both) && each_pair_has_bit(words, other, both)
+}
+
+// whether each word from a place on has a bit
+fn each_has_bit(words: &[u64], from: usize) -> bool
+    ensures { OnTrue result ((i : ℕ) → from ≤ i → i < length words.now → 0 < slice_index_or words.now i 0) }
+{
     let mut all = true;
-    for place in 0..words.len() {
+    for place in from..words.len() {
+        if words[place] == 0 {
+            all = false;
+        }
+    }
+    all
+}
+
+// whether each of so many words has a bit, or the one at its place among others
+fn each_pair_has_bit(words: &[u64], other: &[u64], count: usize) -> bool
+    requires words { count ≤ length words.now }
+    requires others { count ≤ length other.now }
+    ensures { OnTrue result ((i : ℕ) → i < count → 0 < slice_index_or words.now i 0 + slice_index_or other.now i 0) }
+{
+    let mut all = true;
+    for place in 0..count {
         if words[place] | other[place] == 0 {
             all = false;
         }

@@ -1,6 +1,6 @@
 use Rattle.std.proofs.Common.{ℕ, ◌+◌, ◌<◌, get_or}
 use Rattle.std.specs.Bool.{OnTrue}
-use Rattle.bit_words.proofs.words.have_bits.Given as goal
+use Rattle.bit_words.proofs.words.each_pair_has_bit.Given as goal
 
 abbrev pub invariant-loop-place : goal.invariant-loop-place
 invariant-loop-place l = OnTrue l.all ((i : ℕ) → i < l.place → 0 < get_or l.words i 0 + get_or l.other i 0)
