@@ -1,9 +1,9 @@
 -- The bits of words that other words lack, and sets of numbers within others.
 use Rattle.std.proofs.Common.{◌≡◌, ◌≢◌, ℕ, ◌+◌, ◌<◌, ◌^◌, Bool, true, false, ◌&&◌, not, List, [], ◌∷◌, length, get_or, map, refl, sym, ap, ap₂, ◌∙◌, inl, inr, arith, IsTrue}
-use Rattle.std.specs.{Prelude.{◌==◌, bit_xor}, List.{range_with_len}, Int.Bits.{xor_zero_l}}
-use Rattle.std.proofs.{Math.ListN.{get_or-eq_default}, lemmas.{Bool.{cases_eq, eq-eqb, eqb-true, ne_eqb, and_parts}, List.FromFn.{get_or-map-range_with_len, length-map-range_with_len}}}
+use Rattle.std.specs.{Prelude.{◌==◌, bit_or, bit_xor}, List.{range_with_len}, Int.Bits.{xor_zero_l, xor_self}}
+use Rattle.std.proofs.{Math.ListN.{get_or-eq_default}, lemmas.{Bool.{cases_eq, cases_lt, eq-eqb, eqb-true, ne_eqb, and_parts}, List.FromFn.{get_or-map-range_with_len, length-map-range_with_len}}}
 use Rattle.bit_words.specs.Words.{AreWords, bits_of_words}
-use Rattle.bit_words.proofs.{KeptWords.{no_bits, some_bits}, OtherWords.{bits_left_out, alone_two, and_zero_l}, FirstWords.{word_first}}
+use Rattle.bit_words.proofs.{KeptWords.{kept_whole, no_bits, some_bits}, OtherWords.{bits_left_out, alone_two, and_zero_l}, FirstWords.{word_first}}
 use Rattle.abstract_state.specs.declared.value.Domain.TheVariants as domain
 use Rattle.numbered_sets.specs.{Numbers.{Numbers, numbers, has_number, other_numbers}, SetLists.{set_of}, Within.{bits_beside}}
 use Rattle.numbered_sets.proofs.{ViewLaws.{below_power}, KnownNumbers.{no_bit_of_none}, SiftLaws.{some_bit}, MeetLaws.{has_other}}
@@ -46,6 +46,14 @@ module _ (ws us : List ℕ) (small : AreWords ws) (its : AreWords us) where
 -- no bits lie beside others
 pub none_of_none : (m n : ℕ) → m ≡ 0 → bits_beside m n ≡ 0
 none_of_none m n none = ap (λ (k : ℕ). bits_beside k n) none ∙ ap (bit_xor 0) (and_zero_l n) ∙ xor_zero_l 0
+
+-- words whose bits the others all have
+pub beside_words : (ws us mine its : List ℕ) → mine ≡ ws → its ≡ us → ((i : ℕ) → i < length mine → get_or its i 0 ≡ bit_or (get_or its i 0) (get_or mine i 0)) → (i : ℕ) → bits_beside (get_or ws i 0) (get_or us i 0) ≡ 0
+beside_words ws us mine its is are has i =
+    ap₂ (λ (vs xs : List ℕ). bits_beside (get_or vs i 0) (get_or xs i 0)) (sym is) (sym are) ∙ elim (cases_lt i (length mine)) [
+      | inl lt ↦ ap (bit_xor (get_or mine i 0)) (kept_whole (get_or mine i 0) (get_or its i 0) (has i lt)) ∙ xor_self (get_or mine i 0)
+      | inr past ↦ none_of_none (get_or mine i 0) (get_or its i 0) (get_or-eq_default mine 0 past)
+    ]
 
 -- two words before others
 module _ (a b x y : ℕ) (ws us : List ℕ) (fits : a < 2 ^ 64) (too : b < 2 ^ 64) (fit : x < 2 ^ 64) (fit_too : y < 2 ^ 64) where

@@ -10,15 +10,16 @@ use std::alloc::Global;
 use std::marker::Model;
 use std::rc::Rc;
 
-/// A set of numbers of values of a domain for each of some components. The first 128 numbers of each stand in two arrays, with
-/// a word for each component: most tasks have no more values, and events and alarms have two. Further words are few.
+/// A set of numbers of values of a domain for each of some components. The first 64 numbers of each stand in an array, with a
+/// word for each component: most have no more values, and events and alarms have two. Second and further words are few.
 #[derive(Drop)]
 pub struct NumberedSets {
     // copies share them
     pub(crate) domains: Rc<Vec<Domain>>,
     pub(crate) low: Vec<u64>,
+    // the second words, up to the last component that needed one
     pub(crate) high: Vec<u64>,
-    // empty as long as no number is past the first 128
+    // the words after them, alike: empty as long as no number is past the first 128
     pub(crate) more: Seq<SharedWords>,
 }
 
@@ -30,7 +31,7 @@ impl Model for NumberedSets {
 
     ghost view = { λ s. flat_sets s.domains.value.items s.low.items s.high.items s.more };
 
-    ghost invariant = { λ s. (length s.low.items ≡ length s.domains.value.items) × (length s.high.items ≡ length s.domains.value.items) × (length s.more ≤ length s.domains.value.items) };
+    ghost invariant = { λ s. (length s.low.items ≡ length s.domains.value.items) × (length s.high.items ≤ length s.domains.value.items) × (length s.more ≤ length s.domains.value.items) };
 }
 
 impl NumberedSets {
@@ -43,13 +44,12 @@ impl NumberedSets {
         ensures { IfOk result (λ sets. sets ≡ map (λ d. numbers d 0) domains.now) }
     {
         let low = words::clear_words(alloc, domains.len())?;
-        let high = words::clear_words(alloc, domains.len())?;
         let copy = Vec::from_slice(alloc, domains)?;
         let domains = Rc::new(alloc, copy)?;
         Ok(NumberedSets {
             domains,
             low,
-            high,
+            high: Vec::new(alloc),
             more: Seq::new(alloc),
         })
     }
@@ -230,6 +230,7 @@ impl NumberedSets {
         ensures err { OnErr result (self.new ≡ self.old) }
     {
         let alloc = *self.low.allocator();
+        words::widen_for(&mut self.high, component, other.high)?;
         further::put_words(alloc, &mut self.more, component, other.more.as_slice())?;
         words::replace(self.low.as_mut_slice(), component, other.low);
         words::replace(self.high.as_mut_slice(), component, other.high);
@@ -244,11 +245,12 @@ impl NumberedSets {
         ensures count { IfOk result (λ n. all_numbers self.new ≡ all_numbers self.old + n) }
         ensures err { OnErr result (self.new ≡ self.old) }
     {
+        let alloc = *self.low.allocator();
+        words::widen_exactly(&mut self.high, other.high.len())?;
         words::are_words(self.low.as_slice());
         words::are_words(self.high.as_slice());
         words::are_words(other.low.as_slice());
         words::are_words(other.high.as_slice());
-        let alloc = *self.low.allocator();
         let further = further::join(alloc, &mut self.more, &other.more)?;
         let low = words::join(self.low.as_mut_slice(), other.low.as_slice());
         let high = words::join(self.high.as_mut_slice(), other.high.as_slice());

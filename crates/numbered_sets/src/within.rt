@@ -36,10 +36,10 @@ impl NumberedSets {
         words::are_words(self.high.as_slice());
         words::are_words(other.low.as_slice());
         words::are_words(other.high.as_slice());
-        if !are_all_within(self.low.as_slice(), other.low.as_slice()) {
+        if !words::have_all(other.low.as_slice(), self.low.as_slice()) {
             return false;
         }
-        if !are_all_within(self.high.as_slice(), other.high.as_slice()) {
+        if !words::have_all(other.high.as_slice(), self.high.as_slice()) {
             return false;
         }
         if !are_further_within(&self.more, &other.more) {
@@ -103,22 +103,6 @@ impl NumberedSet {
         }
         are_within(self.more.as_slice(), other.more.as_slice())
     }
-}
-
-// Whether each bit of words is one of the others' at its place, of which there are as many. This has no branch for each word.
-fn are_all_within(words: &[u64], other: &[u64]) -> bool
-    ensures { OnTrue result ((i : ℕ) → i < length words.now → bits_beside (slice_index_or words.now i 0) (slice_index_or other.now i 0) ≡ 0) }
-{
-    if words.len() > other.len() {
-        return false;
-    }
-    let mut all = true;
-    for place in 0..words.len() {
-        if words::without(words[place], other[place]) != 0 {
-            all = false;
-        }
-    }
-    all
 }
 
 // whether the further words of each component are within the others'

@@ -1,8 +1,8 @@
-use Rattle.std.proofs.{Common.{◌≡◌, ◌∙◌, ℕ, List, length, get_or, inl, inr, sym, ap, ap₂, subst, arith}, lemmas.Bool.{cases_lt, OnTrue_at}}
+use Rattle.std.proofs.{Common.{◌≡◌, ◌∙◌, length, get_or, inl, inr, sym, ap₂, subst, arith}, lemmas.Bool.{cases_lt, OnTrue_at}}
 use Rattle.bit_words.specs.{Words.{AreWords}, Further.{further_at, further_bits}}
 use Rattle.bit_words.proofs.WordLaws.{small_at}
 use Rattle.numbered_sets.specs.{SetLists.{set_of}, Within.{bits_beside}}
-use Rattle.numbered_sets.proofs.{FlatLaws.{as_many, bits_are}, WithinLaws.{none_in_all, none_past, within_set}}
+use Rattle.numbered_sets.proofs.{FlatLaws.{as_many, bits_are}, WithinLaws.{beside_words, none_in_all, none_past, within_set}}
 use Rattle.numbered_sets.proofs.flat_sets.NumberedSets.are_words_within.Goals as goal
 
 pub returns : goal.returns
@@ -22,11 +22,9 @@ returns c =
       each = λ k n h. elim (cases_lt k (length c.args.self.now)) [
         | inl lt ↦
             (let first : bits_beside (get_or low k 0) (get_or other_low k 0) ≡ 0 =
-            sym (ap₂ (λ (ws us : List ℕ). bits_beside (get_or ws k 0) (get_or us k 0)) c.as_slice-5.ensures.value c.as_slice-6.ensures.value)
-            ∙ OnTrue_at c.if-not-are_all_within.false c.are_all_within.ensures k (omega (arith, lt, many, c.self.invariant.0, ap length c.as_slice-5.ensures.value)) in
+            beside_words low other_low c.as_slice-6.result.now c.as_slice-5.result.now c.as_slice-6.ensures.value c.as_slice-5.ensures.value (OnTrue_at c.if-not-have_all.false c.have_all.ensures.words) k in
             let second : bits_beside (get_or high k 0) (get_or other_high k 0) ≡ 0 =
-            sym (ap₂ (λ (ws us : List ℕ). bits_beside (get_or ws k 0) (get_or us k 0)) c.as_slice-7.ensures.value c.as_slice-8.ensures.value)
-            ∙ OnTrue_at c.if-not-are_all_within-2.false c.are_all_within-2.ensures k (omega (arith, lt, many, c.self.invariant.1, ap length c.as_slice-7.ensures.value)) in
+            beside_words high other_high c.as_slice-8.result.now c.as_slice-7.result.now c.as_slice-8.ensures.value c.as_slice-7.ensures.value (OnTrue_at c.if-not-have_all-2.false c.have_all-2.ensures.words) k in
             let further : bits_beside (further_bits more k) (further_bits other_more k) ≡ 0 = OnTrue_at c.if-not-are_further_within.false c.are_further_within.ensures k in
             let none = none_in_all (get_or low k 0) (get_or high k 0) (get_or other_low k 0) (get_or other_high k 0) (further_at more k) (further_at other_more k)
             (small_at low k fits) (small_at high k fit_too) (small_at other_low k its) (small_at other_high k its_too) first second further in

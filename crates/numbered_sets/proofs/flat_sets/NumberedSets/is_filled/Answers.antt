@@ -4,9 +4,6 @@ use Rattle.numbered_sets.specs.SetLists.{set_of}
 use Rattle.numbered_sets.proofs.FlatLaws.{as_many, read_is, some_words}
 use Rattle.numbered_sets.proofs.flat_sets.NumberedSets.is_filled.Goals as goal
 
-pub have_bits-requires : goal.have_bits-requires
-have_bits-requires c = (let first = ap length c.as_slice.ensures.value in let second = ap length c.as_slice-2.ensures.value in omega (arith, first, second, c.self.invariant.0, c.self.invariant.1))
-
 pub returns-then-have_bits-clause-filled : goal.returns-then-have_bits-clause-filled
 returns-then-have_bits-clause-filled c =
     λ k lt.
