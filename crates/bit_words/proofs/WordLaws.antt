@@ -151,10 +151,19 @@ or_none : (b : Bool) → b ≡ (b || false)
 or_none true = refl
 or_none false = refl
 
-pub all_joined : (before other now : List ℕ) (k added : ℕ) → length other ≤ k → AreJoinedUpTo before other k now added → (n : ℕ) → word_has now n ≡ (word_has before n || word_has other n)
-all_joined before other now k added whole h n = elim (cases_lt (n / 64) k) [
+-- words of which those up to a place have the others' bits too
+pub record AreEitherUpTo (before other : List ℕ) (k : ℕ) (now : List ℕ) : Type 0 where
+  pub as_long : length now ≡ length before
+  pub either : (i : ℕ) → i < k → get_or now i 0 ≡ bit_or (get_or before i 0) (get_or other i 0)
+  pub kept : (i : ℕ) → k ≤ i → get_or now i 0 ≡ get_or before i 0
+
+pub joined_either : (before other now : List ℕ) (k added : ℕ) → AreJoinedUpTo before other k now added → AreEitherUpTo before other k now
+joined_either before other now k added h = record { as_long = h.as_long; either = h.joined; kept = h.kept }
+
+pub all_either : (before other now : List ℕ) (k : ℕ) → length other ≤ k → AreEitherUpTo before other k now → (n : ℕ) → word_has now n ≡ (word_has before n || word_has other n)
+all_either before other now k whole h n = elim (cases_lt (n / 64) k) [
   | inl lt ↦
-      number_at now n ∙ ap (λ w. has_bit w (n % 64)) (h.joined (n / 64) lt) ∙ has_either (get_or before (n / 64) 0) (get_or other (n / 64) 0) (n % 64)
+      number_at now n ∙ ap (λ w. has_bit w (n % 64)) (h.either (n / 64) lt) ∙ has_either (get_or before (n / 64) 0) (get_or other (n / 64) 0) (n % 64)
       ∙ ap₂ (λ (a b : Bool). a || b) (sym (number_at before n)) (sym (number_at other n))
   | inr le ↦
       number_same now before n (h.kept (n / 64) le) ∙ or_none (word_has before n)
@@ -262,17 +271,24 @@ bits_joined ws us vs small its too h = same_bits (bits_of_words vs) (bit_or (bit
 -- a word in the place of another
 -- words that have all bits of others
 pub all_there : (ws us : List ℕ) → AreWords ws → AreWords us → ((i : ℕ) → i < length us → get_or ws i 0 ≡ bit_or (get_or ws i 0) (get_or us i 0)) → bits_of_words ws ≡ bit_or (bits_of_words ws) (bits_of_words us)
-all_there ws us small its each = bits_joined ws us ws small its small (all_joined ws us ws (length us) 0 (omega arith) (nothing_new ws us each))
+all_there ws us small its each = bits_joined ws us ws small its small (all_either ws us ws (length us) (omega arith) (joined_either ws us ws (length us) 0 (nothing_new ws us each)))
 
 pub words_with : (ws : List ℕ) (k w : ℕ) → AreWords ws → w < 2 ^ 64 → AreWords (set ws k w)
 words_with ws k w small lt = All-set (λ v. v < 2 ^ 64) ws k w lt small
 
-module _ (before other now : List ℕ) (k added : ℕ) (small : AreWords before) (its : AreWords other) (h : AreJoinedUpTo before other k now added) where
-  pub joined_words : AreWords now
-  joined_words = All-from_get_or (λ v. v < 2 ^ 64) now 0 (λ i lt. elim (cases_lt i k) [
-    | inl below ↦ subst (λ v. v < 2 ^ 64) (sym (h.joined i below)) (or_lt 64 (get_or before i 0) (get_or other i 0) (small_at before i small) (small_at other i its))
+module _ (before other now : List ℕ) (k : ℕ) (small : AreWords before) (its : AreWords other) (h : AreEitherUpTo before other k now) where
+  pub either_words : AreWords now
+  either_words = All-from_get_or (λ v. v < 2 ^ 64) now 0 (λ i lt. elim (cases_lt i k) [
+    | inl below ↦ subst (λ v. v < 2 ^ 64) (sym (h.either i below)) (or_lt 64 (get_or before i 0) (get_or other i 0) (small_at before i small) (small_at other i its))
     | inr above ↦ subst (λ v. v < 2 ^ 64) (sym (h.kept i above)) (small_at before i small)
   ])
+
+  pub bits_either : length other ≤ k → bits_of_words now ≡ bit_or (bits_of_words before) (bits_of_words other)
+  bits_either whole = bits_joined before other now small its either_words (all_either before other now k whole h)
+
+module _ (before other now : List ℕ) (k added : ℕ) (small : AreWords before) (its : AreWords other) (h : AreJoinedUpTo before other k now added) where
+  pub joined_words : AreWords now
+  joined_words = either_words before other now k small its (joined_either before other now k added h)
 
   pub joined_few : k ≤ length other → added ≤ count_ones (bits_of_words other)
   joined_few le =

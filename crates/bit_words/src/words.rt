@@ -108,6 +108,18 @@ pub fn put(words: &mut [u64], number: usize)
     words[place] = words[place] | 1 << (number % 64);
 }
 
+/// Sets the bits of other words too.
+pub fn put_all(words: &mut [u64], other: &[u64])
+    requires { length other.now ≤ length words.old }
+    ensures { bits_of_words words.new ≡ bit_or (bits_of_words words.old) (bits_of_words other.now) }
+{
+    are_words(words);
+    are_words(other);
+    for place in 0..other.len() {
+        words[place] = words[place] | other[place];
+    }
+}
+
 /// The first bit of a word from one on that is set; 64 where none is.
 pub fn next_bit(word: u64, from: usize) -> usize
     requires { from < 64 }

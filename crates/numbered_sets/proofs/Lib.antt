@@ -8,7 +8,6 @@ pub mod MeetLaws
 pub mod SiftLaws
 pub mod JudgedLaws
 pub mod KeptLaws
-pub mod EitherWords
 pub mod AloneLaws
 pub mod FlatLaws
 pub mod TaskSlots

@@ -1,4 +1,4 @@
--- Sets of numbers in flat words: for each component a word in each of two lists, and further words where it needs them.
+-- Sets of numbers in flat words: for each component a word in a list, and a second one and further words where it needs them.
 use Rattle.std.specs.Prelude.{ℕ, List, [], ◌∷◌, drop, slice_index_or}
 use Rattle.bit_words.specs.{Words.{bits_of_words}, Further.{further_at}}
 use Rattle.abstract_state.specs.declared.value.Domain.{Domain}

@@ -1,6 +1,5 @@
 //! Sets of numbers, which stand for values of a domain.
-ghost use Rattle.std.specs.Prelude.{◌≡◌, ◌≤◌, bit_or, length};
-ghost use Rattle.bit_words.specs.Words.{bits_of_words};
+ghost use Rattle.std.specs.Prelude.{◌≡◌};
 
 use abstract_state::Domain;
 use bit_words::{split_words, words};
@@ -203,22 +202,10 @@ impl NumberedSet {
         words::are_two_words(self.low, self.high);
         words::are_two_words(other.low, other.high);
         words::widen(&mut self.more, other.more.len())?;
-        join_words(self.more.as_mut_slice(), other.more.as_slice());
+        words::put_all(self.more.as_mut_slice(), other.more.as_slice());
         self.low = self.low | other.low;
         self.high = self.high | other.high;
         Ok(())
-    }
-}
-
-// sets the bits of other words too
-fn join_words(words: &mut [u64], other: &[u64])
-    requires { length other.now ≤ length words.old }
-    ensures { bits_of_words words.new ≡ bit_or (bits_of_words words.old) (bits_of_words other.now) }
-{
-    words::are_words(words);
-    words::are_words(other);
-    for place in 0..other.len() {
-        words[place] = words[place] | other[place];
     }
 }
 

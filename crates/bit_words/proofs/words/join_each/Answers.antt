@@ -1,6 +1,6 @@
 use Rattle.std.proofs.Common.{rules, ◌<◌, ◌+◌, ◌^◌, length, get_or, set, refl, arith}
 use Rattle.std.specs.Prelude.{bit_or}
-use Rattle.bit_words.proofs.WordLaws.{AreJoinedUpTo, joined_one_more, all_joined, joined_words, joined_few, joined_count, bits_joined, each_joined, small_at}
+use Rattle.bit_words.proofs.WordLaws.{AreJoinedUpTo, joined_one_more, joined_either, joined_words, joined_few, joined_count, bits_either, each_joined, small_at}
 use Rattle.bit_words.proofs.words.join_each.Goals as goal
 
 pub overflow_add-added : goal.overflow_add-added
@@ -36,9 +36,8 @@ returns-clause-words c = each_joined c.args.words.now c.args.other.now c.loop-pl
 
 pub returns-clause-bits : goal.returns-clause-bits
 returns-clause-bits c =
-    bits_joined c.args.words.now c.args.other.now c.loop-place.words c.are_words.ensures c.are_words-2.ensures
-    (joined_words c.args.words.now c.args.other.now c.loop-place.words c.loop-place.place c.loop-place.added c.are_words.ensures c.are_words-2.ensures c.loop-place.invariant)
-    (all_joined c.args.words.now c.args.other.now c.loop-place.words c.loop-place.place c.loop-place.added c.loop-place-test.false c.loop-place.invariant)
+    bits_either c.args.words.now c.args.other.now c.loop-place.words c.loop-place.place c.are_words.ensures c.are_words-2.ensures
+    (joined_either c.args.words.now c.args.other.now c.loop-place.words c.loop-place.place c.loop-place.added c.loop-place.invariant) c.loop-place-test.false
 
 pub returns-clause-count : goal.returns-clause-count
 returns-clause-count c =

@@ -1,5 +1,5 @@
-use Rattle.numbered_sets.proofs.EitherWords.{AreEitherUpTo}
-use Rattle.numbered_sets.proofs.numbered_set.join_words.Given as goal
+use Rattle.bit_words.proofs.WordLaws.{AreEitherUpTo}
+use Rattle.bit_words.proofs.words.put_all.Given as goal
 
 abbrev pub invariant-loop-place : goal.invariant-loop-place
 invariant-loop-place l = AreEitherUpTo l.initial.words l.other l.place l.words
