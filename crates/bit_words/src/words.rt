@@ -67,10 +67,11 @@ pub fn widen_for(words: &mut Vec<u64>, place: usize, word: u64) -> Result<(), Me
     ensures few { (n : ℕ) → length words.old.items ≤ n → place < n → length words.new.items ≤ n }
     ensures words { (i : ℕ) → slice_index_or words.new.items i 0 ≡ slice_index_or words.old.items i 0 }
 {
-    if word == 0 {
+    // mostly there is room
+    if word == 0 || place < words.len() {
         return Ok(());
     }
-    widen_exactly(words, place + 1)
+    widen(words, place + 1)
 }
 
 /// Takes off the words without a bit at the end. No bit changes.
