@@ -160,7 +160,8 @@ pub record AreEitherUpTo (before other : List ℕ) (k : ℕ) (now : List ℕ) : 
 pub joined_either : (before other now : List ℕ) (k added : ℕ) → AreJoinedUpTo before other k now added → AreEitherUpTo before other k now
 joined_either before other now k added h = record { as_long = h.as_long; either = h.joined; kept = h.kept }
 
-pub all_either : (before other now : List ℕ) (k : ℕ) → length other ≤ k → AreEitherUpTo before other k now → (n : ℕ) → word_has now n ≡ (word_has before n || word_has other n)
+pub all_either : (before other now : List ℕ) (k : ℕ) → length other ≤ k → AreEitherUpTo before other k now
+    → (n : ℕ) → word_has now n ≡ (word_has before n || word_has other n)
 all_either before other now k whole h n = elim (cases_lt (n / 64) k) [
   | inl lt ↦
       number_at now n ∙ ap (λ w. has_bit w (n % 64)) (h.either (n / 64) lt) ∙ has_either (get_or before (n / 64) 0) (get_or other (n / 64) 0) (n % 64)
@@ -271,7 +272,9 @@ bits_joined ws us vs small its too h = same_bits (bits_of_words vs) (bit_or (bit
 -- a word in the place of another
 -- words that have all bits of others
 pub all_there : (ws us : List ℕ) → AreWords ws → AreWords us → ((i : ℕ) → i < length us → get_or ws i 0 ≡ bit_or (get_or ws i 0) (get_or us i 0)) → bits_of_words ws ≡ bit_or (bits_of_words ws) (bits_of_words us)
-all_there ws us small its each = bits_joined ws us ws small its small (all_either ws us ws (length us) (omega arith) (joined_either ws us ws (length us) 0 (nothing_new ws us each)))
+all_there ws us small its each =
+    bits_joined ws us ws small its small
+    (all_either ws us ws (length us) (omega arith) (joined_either ws us ws (length us) 0 (nothing_new ws us each)))
 
 pub words_with : (ws : List ℕ) (k w : ℕ) → AreWords ws → w < 2 ^ 64 → AreWords (set ws k w)
 words_with ws k w small lt = All-set (λ v. v < 2 ^ 64) ws k w lt small
@@ -279,7 +282,9 @@ words_with ws k w small lt = All-set (λ v. v < 2 ^ 64) ws k w lt small
 module _ (before other now : List ℕ) (k : ℕ) (small : AreWords before) (its : AreWords other) (h : AreEitherUpTo before other k now) where
   pub either_words : AreWords now
   either_words = All-from_get_or (λ v. v < 2 ^ 64) now 0 (λ i lt. elim (cases_lt i k) [
-    | inl below ↦ subst (λ v. v < 2 ^ 64) (sym (h.either i below)) (or_lt 64 (get_or before i 0) (get_or other i 0) (small_at before i small) (small_at other i its))
+    | inl below ↦
+        subst (λ v. v < 2 ^ 64) (sym (h.either i below))
+        (or_lt 64 (get_or before i 0) (get_or other i 0) (small_at before i small) (small_at other i its))
     | inr above ↦ subst (λ v. v < 2 ^ 64) (sym (h.kept i above)) (small_at before i small)
   ])
 

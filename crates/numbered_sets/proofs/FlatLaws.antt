@@ -48,8 +48,8 @@ count_later : (more : List (List ℕ)) → further_count more ≡ count_ones (fu
 count_later [] = (let none = none_counted in let all : further_count [] ≡ 0 = refl in omega (arith, none, all))
 count_later (v ∷ vs) = sum_by-cons (λ (ws : List ℕ). count_ones (bits_of_words ws)) v vs
 
--- how many numbers there are in all
-pub flat_count : (ds : List Domain) (low high : List ℕ) (more : List (List ℕ)) → length low ≡ length ds → length high ≤ length ds → length more ≤ length ds → AreWords low → AreWords high
+flat_count : (ds : List Domain) (low high : List ℕ) (more : List (List ℕ))
+    → length low ≡ length ds → length high ≤ length ds → length more ≤ length ds → AreWords low → AreWords high
     → all_numbers (flat_sets ds low high more) ≡ count_ones (bits_of_words low) + count_ones (bits_of_words high) + further_count more
 unfolding flat_sets
 flat_count [] [] [] [] e f le small too =
@@ -64,7 +64,8 @@ flat_count (d ∷ ds) (l ∷ ls) high more e f le small too =
     let fits : l < 2 ^ 64 = All-head (λ w. w < 2 ^ 64) l ls small in
     let shorter = length-drop 1 high in
     let fewer = length-drop 1 more in
-    let rest = flat_count ds ls (drop 1 high) (drop 1 more) (omega (arith, e)) (omega (arith, f, shorter)) (omega (arith, le, fewer)) (All-tail (λ w. w < 2 ^ 64) l ls small) (words_later_too high too) in
+    let rest = flat_count ds ls (drop 1 high) (drop 1 more) (omega (arith, e)) (omega (arith, f, shorter)) (omega (arith, le, fewer))
+    (All-tail (λ w. w < 2 ^ 64) l ls small) (words_later_too high too) in
     let first = ones_of_two l (get_or high 0 0) (further_at more 0) fits (small_at high 0 too) in
     let numbers_first = sum_by-cons number_count (numbers d (bits_of_words (words_at (l ∷ ls) high more 0))) (flat_sets ds ls (drop 1 high) (drop 1 more)) in
     omega (arith, numbers_first, rest, first, ones_first l ls fits, ones_later high too, count_later more)
@@ -77,7 +78,8 @@ flat_none (d ∷ ds) =
     let none : bits_of_words (0 ∷ 0 ∷ []) ≡ 0 = none_first 0 (0 ∷ []) refl (none_first 0 [] refl (bits_of_none [] refl)) in
     ap₂ (λ (m : ℕ) (xs : List Numbers). numbers d m ∷ xs) none (flat_none ds)
 
-pub flat_made : (ds es : List Domain) (low high : List ℕ) (more : List (List ℕ)) → es ≡ ds → low ≡ replicate (length ds) 0 → high ≡ [] → more ≡ [] → flat_sets es low high more ≡ map (λ d. numbers d 0) ds
+pub flat_made : (ds es : List Domain) (low high : List ℕ) (more : List (List ℕ))
+    → es ≡ ds → low ≡ replicate (length ds) 0 → high ≡ [] → more ≡ [] → flat_sets es low high more ≡ map (λ d. numbers d 0) ds
 flat_made ds es low high more domains first second none =
     ap (λ (fs : List Domain). flat_sets fs low high more) domains ∙ ap₂ (λ (ls hs : List ℕ). flat_sets ds ls hs more) first second
     ∙ ap (flat_sets ds (replicate (length ds) 0) []) none ∙ flat_none ds
@@ -108,8 +110,10 @@ pub flat_same_further : (ds : List Domain) (low high : List ℕ) (more after : L
 flat_same_further ds low high more after same = flat_same ds low high low high after more (λ c. same_words_further low high more after c (same c))
 
 -- second words without a bit may be added
-pub flat_widened : (ds : List Domain) (low high wide : List ℕ) (more : List (List ℕ)) → ((c : ℕ) → get_or wide c 0 ≡ get_or high c 0) → flat_sets ds low wide more ≡ flat_sets ds low high more
-flat_widened ds low high wide more same = flat_same ds low wide low high more more (λ c. ap (λ (h : ℕ). bits_of_words (get_or low c 0 ∷ h ∷ further_at more c)) (same c))
+pub flat_widened : (ds : List Domain) (low high wide : List ℕ) (more : List (List ℕ)) → ((c : ℕ) → get_or wide c 0 ≡ get_or high c 0)
+    → flat_sets ds low wide more ≡ flat_sets ds low high more
+flat_widened ds low high wide more same =
+    flat_same ds low wide low high more more (λ c. ap (λ (h : ℕ). bits_of_words (get_or low c 0 ∷ h ∷ further_at more c)) (same c))
 
 -- ---- the sets that words mean
 
@@ -123,8 +127,14 @@ module _ (ds : List Domain) (low high : List ℕ) (more : List (List ℕ)) (xs :
   pub domain_is : (c : ℕ) → c < length ds → get_or ds c domain.Alarm ≡ (set_of xs c).domain
   domain_is c lt = sym (ap (λ (x : Numbers). x.domain) (set_is c lt))
 
+  -- how many numbers there are in all
+  pub all_count : length low ≡ length ds → length high ≤ length ds → length more ≤ length ds → AreWords low → AreWords high
+      → all_numbers xs ≡ count_ones (bits_of_words low) + count_ones (bits_of_words high) + further_count more
+  all_count e f le small too = ap all_numbers (sym is) ∙ flat_count ds low high more e f le small too
+
   -- a component past the end has no bits
-  pub bits_are : length low ≡ length ds → length high ≤ length ds → length more ≤ length ds → (c : ℕ) → bits_of_words (words_at low high more c) ≡ (set_of xs c).bits
+  pub bits_are : length low ≡ length ds → length high ≤ length ds → length more ≤ length ds
+      → (c : ℕ) → bits_of_words (words_at low high more c) ≡ (set_of xs c).bits
   bits_are e f le c = elim (cases_lt c (length ds)) [
     | inl lt ↦ sym (ap (λ (x : Numbers). x.bits) (set_is c lt))
     | inr past ↦
@@ -135,7 +145,8 @@ module _ (ds : List Domain) (low high : List ℕ) (more : List (List ℕ)) (xs :
   ]
 
   -- a component's words as they are read
-  pub read_is : length low ≡ length ds → length high ≤ length ds → length more ≤ length ds → (c a b : ℕ) (ls hs ws : List ℕ) → ls ≡ low → hs ≡ high → a ≡ get_or ls c 0 → b ≡ get_or hs c 0 → ws ≡ further_at more c
+  pub read_is : length low ≡ length ds → length high ≤ length ds → length more ≤ length ds
+      → (c a b : ℕ) (ls hs ws : List ℕ) → ls ≡ low → hs ≡ high → a ≡ get_or ls c 0 → b ≡ get_or hs c 0 → ws ≡ further_at more c
       → bits_of_words (a ∷ b ∷ ws) ≡ (set_of xs c).bits
   read_is e f le c a b ls hs ws lows highs first second third =
       ap₂ (λ (m n : ℕ). bits_of_words (m ∷ n ∷ ws)) (first ∙ ap (λ (us : List ℕ). get_or us c 0) lows) (second ∙ ap (λ (us : List ℕ). get_or us c 0) highs)
@@ -164,7 +175,8 @@ module _ (ds : List Domain) (low high : List ℕ) (more : List (List ℕ)) (xs :
       ])
 
   -- the first two words of one component become others, the second one past the end only 0, and its further ones may change
-  pub flat_put : (c l h x : ℕ) (low_new high_new : List ℕ) (more_new : List (List ℕ)) → low_new ≡ set low c l → high_new ≡ set high c h → length low ≡ length ds → (length high ≤ c → h ≡ 0) → c < length xs
+  pub flat_put : (c l h x : ℕ) (low_new high_new : List ℕ) (more_new : List (List ℕ)) → low_new ≡ set low c l → high_new ≡ set high c h
+      → length low ≡ length ds → (length high ≤ c → h ≡ 0) → c < length xs
       → ((k : ℕ) → k ≢ c → further_bits more_new k ≡ further_bits more k) → bits_of_words (l ∷ h ∷ further_at more_new c) ≡ x → flat_sets ds low_new high_new more_new ≡ set xs c (numbers (set_of xs c).domain x)
   flat_put c l h x low_new high_new more_new lows highs e f lt others here =
       let many = as_many in

@@ -48,7 +48,8 @@ pub none_of_none : (m n : ℕ) → m ≡ 0 → bits_beside m n ≡ 0
 none_of_none m n none = ap (λ (k : ℕ). bits_beside k n) none ∙ ap (bit_xor 0) (and_zero_l n) ∙ xor_zero_l 0
 
 -- words whose bits the others all have
-pub beside_words : (ws us mine its : List ℕ) → mine ≡ ws → its ≡ us → ((i : ℕ) → i < length mine → get_or its i 0 ≡ bit_or (get_or its i 0) (get_or mine i 0)) → (i : ℕ) → bits_beside (get_or ws i 0) (get_or us i 0) ≡ 0
+pub beside_words : (ws us mine its : List ℕ) → mine ≡ ws → its ≡ us
+    → ((i : ℕ) → i < length mine → get_or its i 0 ≡ bit_or (get_or its i 0) (get_or mine i 0)) → (i : ℕ) → bits_beside (get_or ws i 0) (get_or us i 0) ≡ 0
 beside_words ws us mine its is are has i =
     ap₂ (λ (vs xs : List ℕ). bits_beside (get_or vs i 0) (get_or xs i 0)) (sym is) (sym are) ∙ elim (cases_lt i (length mine)) [
       | inl lt ↦ ap (bit_xor (get_or mine i 0)) (kept_whole (get_or mine i 0) (get_or its i 0) (has i lt)) ∙ xor_self (get_or mine i 0)

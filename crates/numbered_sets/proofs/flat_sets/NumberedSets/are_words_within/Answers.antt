@@ -22,9 +22,11 @@ returns c =
       each = λ k n h. elim (cases_lt k (length c.args.self.now)) [
         | inl lt ↦
             (let first : bits_beside (get_or low k 0) (get_or other_low k 0) ≡ 0 =
-            beside_words low other_low c.as_slice-6.result.now c.as_slice-5.result.now c.as_slice-6.ensures.value c.as_slice-5.ensures.value (OnTrue_at c.if-not-have_all.false c.have_all.ensures.words) k in
+            beside_words low other_low c.as_slice-6.result.now c.as_slice-5.result.now c.as_slice-6.ensures.value c.as_slice-5.ensures.value
+            (OnTrue_at c.if-not-have_all.false c.have_all.ensures.words) k in
             let second : bits_beside (get_or high k 0) (get_or other_high k 0) ≡ 0 =
-            beside_words high other_high c.as_slice-8.result.now c.as_slice-7.result.now c.as_slice-8.ensures.value c.as_slice-7.ensures.value (OnTrue_at c.if-not-have_all-2.false c.have_all-2.ensures.words) k in
+            beside_words high other_high c.as_slice-8.result.now c.as_slice-7.result.now c.as_slice-8.ensures.value c.as_slice-7.ensures.value
+            (OnTrue_at c.if-not-have_all-2.false c.have_all-2.ensures.words) k in
             let further : bits_beside (further_bits more k) (further_bits other_more k) ≡ 0 = OnTrue_at c.if-not-are_further_within.false c.are_further_within.ensures k in
             let none = none_in_all (get_or low k 0) (get_or high k 0) (get_or other_low k 0) (get_or other_high k 0) (further_at more k) (further_at other_more k)
             (small_at low k fits) (small_at high k fit_too) (small_at other_low k its) (small_at other_high k its_too) first second further in

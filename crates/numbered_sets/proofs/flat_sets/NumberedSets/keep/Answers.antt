@@ -16,7 +16,9 @@ invariant_of-self c =
     let highs : (with_items c.self.inside.high c.keep_at-2.new.words).items ≡ set c.self.inside.high.items c.args.component (bit_and (get_or c.self.inside.high.items c.args.component 0) c.other.inside.high) =
     written c.self.inside.high c.keep_at-2.new.words c.as_mut_slice-2.result.now c.args.component (bit_and (get_or c.self.inside.high.items c.args.component 0) c.other.inside.high) (omega (arith, c.keep_at-2.auto.words, c.as_mut_slice-2.ensures.len))
     (c.keep_at-2.ensures.word ∙ ap (λ (ws : List ℕ). set c.as_mut_slice-2.result.now c.args.component (bit_and (get_or ws c.args.component 0) c.other.inside.high)) c.as_mut_slice-2.ensures.value) c.as_mut_slice-2.ensures.value in
-    (still_long c.self.inside.domains.value.items c.self.inside.low.items _ c.args.component _ lows c.self.invariant.0, still_few c.self.inside.domains.value.items c.self.inside.high.items _ c.args.component _ highs c.self.invariant.1, c.self.invariant.2)
+    let first = still_long c.self.inside.domains.value.items c.self.inside.low.items _ c.args.component _ lows c.self.invariant.0 in
+    let second = still_few c.self.inside.domains.value.items c.self.inside.high.items _ c.args.component _ highs c.self.invariant.1 in
+    (first, second, c.self.invariant.2)
 
 pub returns-clause-sets : goal.returns-clause-sets
 returns-clause-sets c =
@@ -30,7 +32,10 @@ returns-clause-sets c =
     let rest : further_bits c.self.inside.more c.args.component ≡ bit_and (further_bits c.self.inside.more c.args.component) (bits_of_words c.other.inside.more.items) =
     none ∙ sym (ap (λ m. bit_and m (bits_of_words c.other.inside.more.items)) none ∙ and_zero_l (bits_of_words c.other.inside.more.items)) in
     flat_put c.self.inside.domains.value.items c.self.inside.low.items c.self.inside.high.items c.self.inside.more c.args.self.now c.self.view_is c.args.component (bit_and (get_or c.self.inside.low.items c.args.component 0) c.other.inside.low) (bit_and (get_or c.self.inside.high.items c.args.component 0) c.other.inside.high) (bit_and (set_of c.args.self.now c.args.component).bits c.args.other.now.bits)
-    (with_items c.self.inside.low c.keep_at.new.words).items (with_items c.self.inside.high c.keep_at-2.new.words).items c.self.inside.more lows highs c.self.invariant.0 (λ past. ap (λ (m : ℕ). bit_and m c.other.inside.high) (get_or-eq_default c.self.inside.high.items 0 past) ∙ and_zero_l c.other.inside.high) c.requires
+    (with_items c.self.inside.low c.keep_at.new.words).items
+    (with_items c.self.inside.high c.keep_at-2.new.words).items c.self.inside.more lows highs c.self.invariant.0
+    (λ past. ap (λ (m : ℕ). bit_and m c.other.inside.high) (get_or-eq_default c.self.inside.high.items 0 past) ∙ and_zero_l c.other.inside.high)
+    c.requires
     (λ k differ. refl)
     (both_two (get_or c.self.inside.low.items c.args.component 0) (get_or c.self.inside.high.items c.args.component 0) c.other.inside.low c.other.inside.high (further_at c.self.inside.more c.args.component) c.other.inside.more.items (further_at c.self.inside.more c.args.component)
     (subst (λ (ws : List ℕ). get_or ws c.args.component 0 < 2 ^ 64) c.as_mut_slice.ensures.value c.keep_at.ensures.fits) (subst (λ (ws : List ℕ). get_or ws c.args.component 0 < 2 ^ 64) c.as_mut_slice-2.ensures.value c.keep_at-2.ensures.fits) c.are_two_words.ensures.low c.are_two_words.ensures.high rest

@@ -14,5 +14,6 @@ invariant_of-result c =
 
 pub returns : goal.returns
 returns c =
-    flat_made c.args.domains.now c.in_ok-domains.domains.value.items c.in_ok-low.low.items c.new-2.result.items c.new-3.result (ap (λ (v : Vec Domain Global). v.items) c.in_ok-domains.ensures.ok ∙ c.in_ok-copy.ensures.items)
+    flat_made c.args.domains.now c.in_ok-domains.domains.value.items c.in_ok-low.low.items c.new-2.result.items c.new-3.result
+    (ap (λ (v : Vec Domain Global). v.items) c.in_ok-domains.ensures.ok ∙ c.in_ok-copy.ensures.items)
     c.in_ok-low.ensures c.new-2.ensures.items c.new-3.ensures

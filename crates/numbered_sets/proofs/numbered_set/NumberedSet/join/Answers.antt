@@ -20,7 +20,8 @@ returns-clause-set c =
     ap bits_of_words (with_items_is wide c.put_all.new.words long) ∙ c.put_all.ensures
     ∙ ap₂ bit_or (ap bits_of_words c.as_mut_slice.ensures.value ∙ c.in_ok-widen.ensures.same) (ap bits_of_words c.as_slice.ensures.value) in
     ap (numbers c.self.inside.domain)
-    (either_two a b x y ws us (with_items wide c.put_all.new.words).items c.are_two_words.ensures.low c.are_two_words.ensures.high c.are_two_words-2.ensures.low c.are_two_words-2.ensures.high rest)
+    (either_two a b x y ws us (with_items wide c.put_all.new.words).items c.are_two_words.ensures.low c.are_two_words.ensures.high
+    c.are_two_words-2.ensures.low c.are_two_words-2.ensures.high rest)
     ∙ ap₂ (λ (m n : Numbers). numbers m.domain (bit_or m.bits n.bits)) c.self.view_is c.other.view_is
 
 pub returns-in_err-widen-clause-err : goal.returns-in_err-widen-clause-err
