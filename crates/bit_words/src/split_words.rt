@@ -19,6 +19,7 @@ pub fn has(low: u64, high: u64, more: &[u64], number: usize) -> bool
 }
 
 /// The first number from one on whose bit is set, if it is below a bound; else the bound.
+#[inline(always)]
 pub fn next(low: u64, high: u64, more: &[u64], from: usize, below: usize) -> usize
     requires { from ≤ below }
     ensures up { from ≤ result }

@@ -100,6 +100,7 @@ pub fn leave_out_trimmed(words: &mut Vec<u64>, other: &[u64])
 }
 
 /// Sets a number's bit.
+#[inline(always)]
 pub fn put(words: &mut [u64], number: usize)
     requires { number / 64 < length words.old }
     ensures { bits_of_words words.new ≡ bit_or (bits_of_words words.old) (2 ^ number) }
@@ -137,6 +138,7 @@ pub fn next_bit(word: u64, from: usize) -> usize
 }
 
 /// The first number from one on whose bit is set, if it is below a bound; else the bound.
+#[inline(always)]
 pub fn next(words: &[u64], from: usize, below: usize) -> usize
     requires { from ≤ below }
     ensures up { from ≤ result }
@@ -155,6 +157,7 @@ pub fn next(words: &[u64], from: usize, below: usize) -> usize
 }
 
 // the first number of the words from one on, if it is below a bound; else the bound
+#[inline(never)]
 fn next_in_words(words: &[u64], from: usize, below: usize) -> usize
     ensures up { result < below → 64 * from ≤ result }
     ensures few { result ≤ below }

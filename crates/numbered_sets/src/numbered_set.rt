@@ -79,6 +79,7 @@ impl NumberedSet {
     }
 
     /// The first number in the set from one on, if it is below a bound; else the bound.
+    #[inline(always)]
     pub fn next(&self, from: usize, below: usize) -> usize
         requires { from ≤ below }
         ensures up { from ≤ result }
@@ -103,6 +104,7 @@ impl NumberedSet {
     }
 
     /// Puts a number in the set.
+    #[inline(always)]
     pub fn put(&mut self, number: usize) -> Result<(), Memory>
         ensures set { OnOk result (self.new ≡ with_number self.old number) }
         ensures err { OnErr result (self.new ≡ self.old) }
