@@ -1,5 +1,5 @@
 -- Lists of cells: their order, and what a join leaves of them.
-use Rattle.std.proofs.Common.{◌≡◌, ◌⊎◌, ℕ, ◌+◌, ◌<◌, true, None, List, length, get_or, set, refl, sym, ap, subst, ◌∙◌, inl, inr, arith, get_or-set_same, get_or-set_other}
+use Rattle.std.proofs.Common.{◌≡◌, ◌⊎◌, ℕ, ◌+◌, ◌<◌, List, length, get_or, set, refl, sym, ap, subst, ◌∙◌, inl, inr, arith, get_or-set_same, get_or-set_other}
 use Rattle.std.specs.{Prelude.{Contains}, List.{insert}}
 use Rattle.std.proofs.lemmas.{Bool.{cases_eq}, List.{length-set, get_or_default}}
 use Rattle.std.proofs.lemmas.List.{Elements.{Contains-get_or}, Edits.{length-insert}, Sums.{sum_by-set, sum_by-insert}}
@@ -7,7 +7,7 @@ use Rattle.osek_standard.specs.{declared.point.Point.{Point}, Points.{point_numb
 use Rattle.table_rows.specs.Order.{AscendBy, IsPlaceBy, IsGapBy}
 use Rattle.table_rows.proofs.{ListEdits.{insert_has, insert_stays, insert_place, insert_cases}, OrderLaws.{ascend_alike, place_alike, gap_alike, ascend_set, ascend_insert}}
 use Rattle.state_flow.specs.declared.cells.Cell.{Cell}
-use Rattle.state_flow.specs.Cells.{cell_number, AreCellsInOrder, WasEvaluatedWith, waits, MayJoin, HasAbove, IsRaised, IsJoined}
+use Rattle.state_flow.specs.Cells.{cell_number, reached_cell, AreCellsInOrder, WasEvaluatedWith, waits, MayJoin, HasAbove, IsRaised, IsJoined}
 
 -- what a list has after an edit
 module _ {X : Type 0} (xs : List X) (i : ℕ) (v : X) where
@@ -112,29 +112,30 @@ module _ {E : Type 0} (IsElement : E → Type 0) (AreAlike IsLower : E → E →
         }
 
     -- A new cell was put in its gap.
-    pub joined_new : (gap : ℕ) (cell : Cell E) → cell.point ≡ point → cell.entry ≡ entry → cell.waiting ≡ true → cell.before ≡ None → cell.number ≡ point_number point → IsGapBy cell_number cells (point_number point) gap → IsJoined IsElement AreAlike IsLower rank cells point entry (insert cells gap cell)
-    joined_new gap cell here is waiting unkept told at =
+    pub joined_new : (gap : ℕ) → IsGapBy cell_number cells (point_number point) gap → IsJoined IsElement AreAlike IsLower rank cells point entry (insert cells gap (reached_cell point entry))
+    joined_new gap at =
+        let cell : Cell E = reached_cell point entry in
         let has = insert_has cells gap cell at.known in
         let long = length-insert cells gap cell at.known in
         let more = sum_by-insert waits cells gap cell in
         let total = sum_by-insert (λ (x : Cell E). rank x.entry) cells gap cell in
-        let one : waits cell ≡ 1 = rw waiting refl in
+        let one : waits cell ≡ 1 = refl in
         record {
-          order = order_insert cells order gap cell (told ∙ ap point_number (sym here)) (subst (λ (p : Point). IsGapBy cell_number cells (point_number p) gap) (sym here) at);
+          order = order_insert cells order gap cell refl at;
           evaluated = λ x h z was. elim (insert_cases cells gap cell at.known x h) [
             | inl stays ↦ record { cell = x; among = stays; at = refl; evaluated = was }
             | inr e ↦ absurd (not_yet z (subst (λ (y : Cell E). WasEvaluatedWith y z) e was))
           ];
           grows = λ x h. record { cell = x; among = insert_stays cells gap cell at.known x h; at = refl; above = itself x.entry };
-          joins = record { cell = cell; among = has; at = here; above = subst (λ (y : E). IsLower y cell.entry) is (itself cell.entry) };
+          joins = record { cell = cell; among = has; at = refl; above = itself entry };
           from = λ x h. elim (insert_cases cells gap cell at.known x h) [
             | inl stays ↦ inl stays
-            | inr e ↦ inr (inl (record { at = ap (λ (y : Cell E). y.point) e ∙ here; is = ap (λ (y : Cell E). y.entry) e ∙ is }))
+            | inr e ↦ inr (inl (record { at = ap (λ (y : Cell E). y.point) e; is = ap (λ (y : Cell E). y.entry) e }))
           ];
           counts = omega (arith, more, total, long, one);
           sizes = omega (arith, more, long, one);
         }
       where
-        not_yet : (z : E) → WasEvaluatedWith cell z → ⊥
+        not_yet : (z : E) → WasEvaluatedWith (reached_cell point entry) z → ⊥
         not_yet z (inl kept) = absurd (cc)
-        not_yet z (inr own) = absurd (let waits_now : cell.waiting ≡ true = waiting in let idle = own.0 in cc)
+        not_yet z (inr own) = absurd (let idle = own.0 in cc)

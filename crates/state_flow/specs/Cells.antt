@@ -1,5 +1,5 @@
 -- Points that were reached, with what is known of each, in the order of the points.
-use Rattle.std.specs.Prelude.{◌≡◌, ◌⊎◌, ℕ, ◌+◌, ◌<◌, ◌≤◌, true, false, Some, List, length, slice_index_or, sum_by, if◌then◌else◌, Contains}
+use Rattle.std.specs.Prelude.{◌≡◌, ◌⊎◌, ℕ, ◌+◌, ◌<◌, ◌≤◌, true, false, Some, None, List, length, slice_index_or, sum_by, if◌then◌else◌, Contains}
 use Rattle.osek_standard.specs.{declared.point.Point.{Point}, Points.{point_number}}
 use Rattle.table_rows.specs.Order.{AscendBy}
 use Rattle.state_flow.specs.declared.cells.Cell.{Cell}
@@ -7,6 +7,10 @@ use Rattle.state_flow.specs.declared.cells.Cell.{Cell}
 module _ {E : Type 0} where
   abbrev pub cell_number : Cell E → ℕ
   cell_number cell = point_number cell.point
+
+  -- that of a point that was reached just now: it waits, and wasn't evaluated yet
+  abbrev pub reached_cell : Point → E → Cell E
+  reached_cell point entry = record { point = point; number = point_number point; waiting = true; entry = entry; before = None; growth = tt }
 
   -- in the order of their points, none twice, and each tells its point's number
   pub record AreCellsInOrder (cells : List (Cell E)) : Type 0 where

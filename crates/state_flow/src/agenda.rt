@@ -1,18 +1,17 @@
 //! Which point is evaluated next. The least table is the same in each order, but a good order needs half the evaluations or less.
-ghost use Rattle.std.specs.{Prelude.{◌≤◌, length, IfSome, IfNone}, Bool.{OnTrue}};
-ghost use Rattle.state_flow.specs.Cells.{IsWaitingCell, NoneWaits};
 
-use crate::cells::Cell;
-use crate::kept::Kept;
+use osek_values::Memory;
+use std::alloc::Global;
+use std::collections::BinaryHeap;
 use std::marker::Model;
 
-/// How often a point was evaluated, how many of its values came in since, and how urgent its evaluation is for that. Contracts say
-/// nothing of these: they tell only what is better done first.
+/// How often a point was evaluated, how many of its values came in since, and how urgent it was when it was put on the agenda last.
+/// Contracts say nothing of these: they tell only what is better done first.
 #[derive(Drop)]
 pub struct Growth {
-    evaluations: u64,
+    evaluations: u32,
     values: u64,
-    urgency: u64,
+    noted: u32,
 }
 
 impl Model for Growth {
@@ -23,116 +22,127 @@ impl Model for Growth {
     ghost view = { λ growth. tt };
 }
 
-/// Points that are new are evaluated in sweeps: what a point leads to stands mostly above it. Of the others the next one is that to
-/// which most came, of those that were evaluated about as rarely as any.
-#[derive(Drop)]
-pub struct Agenda {
-    from: usize,
+/// A point that waited when it was put on the agenda. The more urgent is the greater. Of those that are about as urgent it is the
+/// lower point: what a point leads to stands mostly above it.
+#[derive(Clone, Copy, PartialEq, Eq, PartialOrd, Ord)]
+pub struct Urgent {
+    urgency: u32,
+    // the more, the lower the point
+    lowness: u32,
+    // as often it had been evaluated
+    evaluations: u32,
 }
 
-// the first of the most urgent cells that were looked at; those that don't wait aren't urgent
+/// Points that waited, the most urgent first. Contracts say nothing of these either: cells tell what waits.
 #[derive(Drop)]
-struct Pick {
-    place: usize,
-    urgency: u64,
+pub struct Agenda {
+    points: BinaryHeap<Urgent>,
+}
+
+impl Model for Agenda {
+    ghost use Rattle.std.specs.Prelude.{⊤};
+
+    ghost Value = { ⊤ };
+
+    ghost view = { λ agenda. tt };
 }
 
 // more urgent than all that was evaluated
-const NEW: u64 = u64::MAX;
+const NEW: u32 = u32::MAX;
+
+// by it few values of what was evaluated often still count
+const SCALE: u64 = 1024;
 
 impl Growth {
-    /// That of a point that was reached just now.
+    /// That of a point that was reached just now, and put on the agenda.
     pub fn new() -> Growth {
         Growth {
             evaluations: 0,
             values: 0,
-            urgency: NEW,
+            noted: NEW,
         }
     }
 
-    /// So many values came in.
-    pub fn add(&mut self, values: u64) {
+    /// So many values came in. It tells whether the point is to be put on the agenda for them.
+    pub fn add(&mut self, values: u64) -> bool {
         self.values = self.values.saturating_add(values);
-        if self.evaluations == 0 {
-            return;
+        let urgency = self.urgency();
+        if urgency <= self.noted {
+            return false;
         }
-        // the fewer evaluations by powers of two, the more urgent; among equals the one with more values
-        let rarity = self.evaluations.leading_zeros() as u64;
-        let most = u32::MAX as u64;
-        self.urgency = rarity * (most + 1) + self.values.min(most);
+        self.noted = urgency;
+        true
     }
 
     /// The point is evaluated.
     pub fn evaluate(&mut self) {
         self.evaluations = self.evaluations.saturating_add(1);
         self.values = 0;
-        self.urgency = 0;
+        self.noted = 0;
+    }
+
+    /// The point, which has this number, as it is to be put on the agenda.
+    pub fn urgent(&self, number: u32) -> Urgent {
+        Urgent {
+            urgency: self.urgency(),
+            lowness: u32::MAX - number,
+            evaluations: self.evaluations,
+        }
+    }
+
+    // the more values came in, and the more rarely the point was evaluated
+    fn urgency(&self) -> u32 {
+        if self.evaluations == 0 {
+            return NEW;
+        }
+        let often = self.evaluations as u64 + 1;
+        in_sixteenths(self.values.saturating_mul(SCALE) / often.saturating_mul(often))
+    }
+
+    /// Whether the point wasn't evaluated since it was put on the agenda.
+    pub fn is_as(&self, urgent: Urgent) -> bool {
+        self.evaluations == urgent.evaluations
+    }
+}
+
+impl Urgent {
+    /// The point's number.
+    pub fn number(self) -> u32 {
+        u32::MAX - self.lowness
     }
 }
 
 impl Agenda {
-    /// Nothing was evaluated yet.
-    pub fn new() -> Agenda {
-        Agenda { from: 0 }
+    /// There is no point on it.
+    pub fn new(alloc: Global) -> Agenda {
+        Agenda {
+            points: BinaryHeap::new(alloc),
+        }
     }
 
-    /// The place of the cell that is to be evaluated next, of those that wait.
-    pub fn next<E>(&mut self, cells: &[Kept<Cell<E>>]) -> Option<usize>
-        ensures waits { IfSome result (IsWaitingCell cells.now) }
-        ensures none { IfNone result (NoneWaits cells.now) }
-    {
-        let from = self.from.min(cells.len());
-        let mut pick = Pick {
-            place: 0,
-            urgency: 0,
-        };
-        pick.look(cells, from, cells.len());
-        if pick.urgency < NEW {
-            pick.look(cells, 0, from);
-        }
-        let place = if waits(cells, pick.place) {
-            pick.place
-        } else {
-            first_waiting(cells)?
-        };
-        self.from = place.saturating_add(1);
-        Some(place)
+    /// How many points are on it; one may be there several times.
+    pub fn len(&self) -> usize {
+        self.points.len()
+    }
+
+    /// Puts a point on it.
+    pub fn push(&mut self, urgent: Urgent) -> Result<(), Memory> {
+        self.points.push(urgent)?;
+        Ok(())
+    }
+
+    /// Takes the most urgent point off.
+    pub fn pop(&mut self) -> Option<Urgent> {
+        self.points.pop()
     }
 }
 
-impl Pick {
-    // looks at the cells of these places, up to one that is new
-    fn look<E>(&mut self, cells: &[Kept<Cell<E>>], from: usize, end: usize)
-        requires { end ≤ length cells.now }
-    {
-        for place in from..end {
-            let urgency = cells[place].get().growth.urgency;
-            if urgency > self.urgency {
-                self.place = place;
-                self.urgency = urgency;
-                if urgency == NEW {
-                    return;
-                }
-            }
-        }
-    }
-}
-
-// whether a cell stands there that waits
-fn waits<E>(cells: &[Kept<Cell<E>>], place: usize) -> bool
-    ensures { OnTrue result (IsWaitingCell cells.now place) }
-{
-    place < cells.len() && cells[place].get().waiting
-}
-
-fn first_waiting<E>(cells: &[Kept<Cell<E>>]) -> Option<usize>
-    ensures waits { IfSome result (IsWaitingCell cells.now) }
-    ensures none { IfNone result (NoneWaits cells.now) }
-{
-    for place in 0..cells.len() {
-        if cells[place].get().waiting {
-            return Some(place);
-        }
-    }
-    None
+// A number's power of two, and how many sixteenths of it the number has: so few numbers are told apart, and each is more than 0.
+fn in_sixteenths(number: u64) -> u32 {
+    let power = 63u32.saturating_sub(number.leading_zeros());
+    // below 32, since the first bit that is set becomes the fifth
+    let sixteenths = (number >> power.saturating_sub(4)) % 32;
+    power
+        .saturating_mul(16)
+        .saturating_add(sixteenths as u32 + 1)
 }

@@ -1,8 +1,8 @@
 //! Points that were reached, with what is known of each, in the order of the points.
-ghost use Rattle.std.specs.Prelude.{◌≡◌, OnOk};
-ghost use Rattle.state_flow.specs.Cells.{AreCellsInOrder, MayJoin, IsJoined};
+ghost use Rattle.std.specs.Prelude.{IfSome, IfNone};
+ghost use Rattle.state_flow.specs.Cells.{IsWaitingCell, NoneWaits};
 
-use crate::agenda::Growth;
+use crate::agenda::{Agenda, Growth, Urgent};
 use crate::kept::Kept;
 use crate::lattice::Lattice;
 use osek_standard::Point;
@@ -24,23 +24,49 @@ pub struct Cell<E> {
     pub growth: Growth,
 }
 
+impl<E: Lattice + Drop> Cell<E> {
+    ghost use Rattle.std.specs.Prelude.{◌≡◌, IfOk};
+    ghost use Rattle.state_flow.specs.Cells.{reached_cell};
+
+    /// That of a point that was reached just now, and waits.
+    fn new(alloc: Global, point: Point, entry: &E) -> Result<Kept<Cell<E>>, Memory>
+        ensures { IfOk result (λ cell. cell ≡ reached_cell point entry.now) }
+    {
+        let entry = entry.copy(alloc)?;
+        Kept::new(
+            alloc,
+            Cell {
+                point,
+                number: point.number(),
+                waiting: true,
+                entry,
+                before: None,
+                growth: Growth::new(),
+            },
+        )
+    }
+}
+
 impl<E: Lattice> Cell<E> {
     ghost use Rattle.std.specs.Prelude.{OnOk};
     ghost use Rattle.state_flow.specs.Cells.{IsRaised};
 
-    /// Joins another entry in. The cell waits where its entry grew.
-    fn raise(&mut self, other: &E) -> Result<(), Memory>
+    /// Joins another entry in. The cell waits where its entry grew. It answers what is to be put on the agenda then.
+    fn raise(&mut self, other: &E) -> Result<Option<Urgent>, Memory>
         requires element { E.is_element self.old.entry }
         requires of_element { E.is_element other.now }
         requires alike { E.alike self.old.entry other.now }
         ensures { OnOk result (IsRaised E.is_element E.alike E.is_below E.rank self.old other.now self.new) }
     {
         let added = self.entry.join_into(other)?;
-        if added > 0 {
-            self.waiting = true;
-            self.growth.add(added);
+        if added == 0 {
+            return Ok(None);
         }
-        Ok(())
+        self.waiting = true;
+        if !self.growth.add(added) {
+            return Ok(None);
+        }
+        Ok(Some(self.growth.urgent(self.number)))
     }
 }
 
@@ -52,34 +78,105 @@ impl<E> Keyed for Kept<Cell<E>> {
     }
 }
 
-/// Joins an entry into the cell of its point, or puts the point in with it.
-pub fn join<E: Lattice + Drop>(
-    alloc: Global,
-    cells: &mut Vec<Kept<Cell<E>>>,
-    point: Point,
-    entry: &E,
-) -> Result<(), Memory>
-    requires order { AreCellsInOrder cells.old.items }
-    requires may { MayJoin E.is_element E.alike cells.old.items point entry.now }
-    ensures { OnOk result (IsJoined E.is_element E.alike E.is_below E.rank cells.old.items point entry.now cells.new.items) }
-{
-    match place_of(cells.as_slice(), point.number()) {
-        Ok(place) => cells[place].get_mut().raise(entry)?,
-        Err(gap) => {
-            let entry = entry.copy(alloc)?;
-            let cell = Kept::new(
-                alloc,
-                Cell {
-                    point,
-                    number: point.number(),
-                    waiting: true,
-                    entry,
-                    before: None,
-                    growth: Growth::new(),
-                },
-            )?;
-            cells.insert(gap, cell)?
+/// The points that were reached, in their order, and which of those that wait is to be evaluated next.
+#[derive(Drop)]
+pub struct Cells<E> {
+    pub list: Vec<Kept<Cell<E>>>,
+    agenda: Agenda,
+}
+
+impl<E> Cells<E> {
+    ghost use Rattle.std.specs.Prelude.{◌≡◌, [], IfSome, IfNone};
+    ghost use Rattle.state_flow.specs.Cells.{AreCellsInOrder, IsWaitingCell, NoneWaits};
+
+    /// No point.
+    pub fn new(alloc: Global) -> Cells<E>
+        ensures { result.list.items ≡ [] }
+    {
+        Cells {
+            list: Vec::new(alloc),
+            agenda: Agenda::new(alloc),
         }
     }
-    Ok(())
+
+    /// The place of the cell that is to be evaluated next, of those that wait.
+    pub fn next(&mut self) -> Option<usize>
+        requires { AreCellsInOrder self.old.list.items }
+        ensures same { self.new.list.items ≡ self.old.list.items }
+        ensures waits { IfSome result (IsWaitingCell self.new.list.items) }
+        ensures none { IfNone result (NoneWaits self.new.list.items) }
+    {
+        match self.most_urgent() {
+            Some(place) => Some(place),
+            None => first_waiting(self.list.as_slice()),
+        }
+    }
+
+    // the place of the most urgent cell on the agenda that waits
+    fn most_urgent(&mut self) -> Option<usize>
+        requires { AreCellsInOrder self.old.list.items }
+        ensures same { self.new.list.items ≡ self.old.list.items }
+        ensures waits { IfSome result (IsWaitingCell self.new.list.items) }
+    {
+        for _point in 0..self.agenda.len() {
+            let urgent = self.agenda.pop()?;
+            if let Some(place) = self.waiting_as(urgent) {
+                return Some(place);
+            }
+        }
+        None
+    }
+
+    // the place of a point that was put on the agenda, if it waits and wasn't evaluated since
+    fn waiting_as(&self, urgent: Urgent) -> Option<usize>
+        requires { AreCellsInOrder self.now.list.items }
+        ensures { IfSome result (IsWaitingCell self.now.list.items) }
+    {
+        let Ok(place) = place_of(self.list.as_slice(), urgent.number()) else {
+            return None;
+        };
+        let cell = self.list[place].get();
+        if cell.waiting && cell.growth.is_as(urgent) {
+            return Some(place);
+        }
+        None
+    }
+}
+
+impl<E: Lattice + Drop> Cells<E> {
+    ghost use Rattle.std.specs.Prelude.{OnOk};
+    ghost use Rattle.state_flow.specs.Cells.{AreCellsInOrder, MayJoin, IsJoined};
+
+    /// Joins an entry into the cell of its point, or puts the point in with it.
+    pub fn join(&mut self, alloc: Global, point: Point, entry: &E) -> Result<(), Memory>
+        requires order { AreCellsInOrder self.old.list.items }
+        requires may { MayJoin E.is_element E.alike self.old.list.items point entry.now }
+        ensures { OnOk result (IsJoined E.is_element E.alike E.is_below E.rank self.old.list.items point entry.now self.new.list.items) }
+    {
+        match place_of(self.list.as_slice(), point.number()) {
+            Ok(place) => {
+                if let Some(urgent) = self.list[place].get_mut().raise(entry)? {
+                    self.agenda.push(urgent)?;
+                }
+            }
+            Err(gap) => {
+                let cell = Cell::new(alloc, point, entry)?;
+                self.agenda.push(cell.get().growth.urgent(point.number()))?;
+                self.list.insert(gap, cell)?
+            }
+        }
+        Ok(())
+    }
+}
+
+fn first_waiting<E>(cells: &[Kept<Cell<E>>]) -> Option<usize>
+    ensures waits { IfSome result (IsWaitingCell cells.now) }
+    ensures none { IfNone result (NoneWaits cells.now) }
+{
+    for place in 0..cells.len() {
+        if cells[place].get().waiting {
+            return Some(place);
+        }
+    }
+    None
 }

@@ -5,9 +5,8 @@ ghost use Rattle.numbered_sets.specs.declared.table.NumberedRow.{NumberedRow};
 ghost use Rattle.point_exits.specs.Growing.{IsGrown};
 ghost use Rattle.state_flow.specs.{Cells.{IsWaitingCell}, Numbering.{AreNumberedCells, AreRowsEvaluated, HasProgress, IsKnownRow}};
 
-use crate::cells::Cell;
+use crate::cells::Cells;
 use crate::joining::join_groups;
-use crate::kept::Kept;
 use crate::parts::{grow_by_few, rows_to_evaluate};
 use numbered_sets::{NumberedEntry, NumberedRow};
 use osek_values::Memory;
@@ -18,17 +17,17 @@ use std::alloc::Global;
 pub fn turn(
     alloc: Global,
     numbering: &mut Numbering,
-    cells: &mut Vec<Kept<Cell<NumberedEntry>>>,
+    cells: &mut Cells<NumberedEntry>,
     place: usize,
 ) -> Result<(), Memory>
     requires masks { HasMasks numbering.old.app.now }
-    requires cells { AreNumberedCells numbering.old.app.now numbering.old.pool cells.old.items }
-    requires waits { IsWaitingCell cells.old.items place }
+    requires cells { AreNumberedCells numbering.old.app.now numbering.old.pool cells.old.list.items }
+    requires waits { IsWaitingCell cells.old.list.items place }
     ensures grown { IsGrown numbering.old numbering.new }
-    ensures progress { OnOk result ((n : ℕ) → HasProgress numbering.old.app.now numbering.old.pool cells.old.items n → HasProgress numbering.old.app.now numbering.new.pool cells.new.items (n + 1)) }
+    ensures progress { OnOk result ((n : ℕ) → HasProgress numbering.old.app.now numbering.old.pool cells.old.list.items n → HasProgress numbering.old.app.now numbering.new.pool cells.new.list.items (n + 1)) }
 {
     // what updates make of large sets is kept for each point
-    numbering.pool.turn_to(cells[place].get().number);
+    numbering.pool.turn_to(cells.list[place].get().number);
     evaluate_point(alloc, numbering, cells, place)
 }
 
@@ -36,14 +35,14 @@ pub fn turn(
 fn evaluate_point(
     alloc: Global,
     numbering: &mut Numbering,
-    cells: &mut Vec<Kept<Cell<NumberedEntry>>>,
+    cells: &mut Cells<NumberedEntry>,
     place: usize,
 ) -> Result<(), Memory>
     requires masks { HasMasks numbering.old.app.now }
-    requires cells { AreNumberedCells numbering.old.app.now numbering.old.pool cells.old.items }
-    requires waits { IsWaitingCell cells.old.items place }
+    requires cells { AreNumberedCells numbering.old.app.now numbering.old.pool cells.old.list.items }
+    requires waits { IsWaitingCell cells.old.list.items place }
     ensures grown { IsGrown numbering.old numbering.new }
-    ensures progress { OnOk result ((n : ℕ) → HasProgress numbering.old.app.now numbering.old.pool cells.old.items n → HasProgress numbering.old.app.now numbering.new.pool cells.new.items (n + 1)) }
+    ensures progress { OnOk result ((n : ℕ) → HasProgress numbering.old.app.now numbering.old.pool cells.old.list.items n → HasProgress numbering.old.app.now numbering.new.pool cells.new.list.items (n + 1)) }
 {
     if grow_by_few(numbering.app) {
         evaluate_news(alloc, numbering, cells, place)
@@ -56,16 +55,16 @@ fn evaluate_point(
 fn evaluate_news(
     alloc: Global,
     numbering: &mut Numbering,
-    cells: &mut Vec<Kept<Cell<NumberedEntry>>>,
+    cells: &mut Cells<NumberedEntry>,
     place: usize,
 ) -> Result<(), Memory>
     requires masks { HasMasks numbering.old.app.now }
-    requires cells { AreNumberedCells numbering.old.app.now numbering.old.pool cells.old.items }
-    requires waits { IsWaitingCell cells.old.items place }
+    requires cells { AreNumberedCells numbering.old.app.now numbering.old.pool cells.old.list.items }
+    requires waits { IsWaitingCell cells.old.list.items place }
     ensures grown { IsGrown numbering.old numbering.new }
-    ensures progress { OnOk result ((n : ℕ) → HasProgress numbering.old.app.now numbering.old.pool cells.old.items n → HasProgress numbering.old.app.now numbering.new.pool cells.new.items (n + 1)) }
+    ensures progress { OnOk result ((n : ℕ) → HasProgress numbering.old.app.now numbering.old.pool cells.old.list.items n → HasProgress numbering.old.app.now numbering.new.pool cells.new.list.items (n + 1)) }
 {
-    let cell = cells[place].get_mut();
+    let cell = cells.list[place].get_mut();
     let rows = rows_to_evaluate(alloc, cell)?;
     evaluate_each(alloc, numbering, rows.as_slice(), cells)
 }
@@ -74,16 +73,16 @@ fn evaluate_news(
 fn evaluate_whole(
     alloc: Global,
     numbering: &mut Numbering,
-    cells: &mut Vec<Kept<Cell<NumberedEntry>>>,
+    cells: &mut Cells<NumberedEntry>,
     place: usize,
 ) -> Result<(), Memory>
     requires masks { HasMasks numbering.old.app.now }
-    requires cells { AreNumberedCells numbering.old.app.now numbering.old.pool cells.old.items }
-    requires waits { IsWaitingCell cells.old.items place }
+    requires cells { AreNumberedCells numbering.old.app.now numbering.old.pool cells.old.list.items }
+    requires waits { IsWaitingCell cells.old.list.items place }
     ensures grown { IsGrown numbering.old numbering.new }
-    ensures progress { OnOk result ((n : ℕ) → HasProgress numbering.old.app.now numbering.old.pool cells.old.items n → HasProgress numbering.old.app.now numbering.new.pool cells.new.items (n + 1)) }
+    ensures progress { OnOk result ((n : ℕ) → HasProgress numbering.old.app.now numbering.old.pool cells.old.list.items n → HasProgress numbering.old.app.now numbering.new.pool cells.new.list.items (n + 1)) }
 {
-    let cell = cells[place].get_mut();
+    let cell = cells.list[place].get_mut();
     cell.waiting = false;
     cell.before = None;
     cell.growth.evaluate();
@@ -97,13 +96,13 @@ fn evaluate_each(
     alloc: Global,
     numbering: &mut Numbering,
     rows: &[NumberedRow],
-    cells: &mut Vec<Kept<Cell<NumberedEntry>>>,
+    cells: &mut Cells<NumberedEntry>,
 ) -> Result<(), Memory>
     requires masks { HasMasks numbering.old.app.now }
-    requires cells { AreNumberedCells numbering.old.app.now numbering.old.pool cells.old.items }
+    requires cells { AreNumberedCells numbering.old.app.now numbering.old.pool cells.old.list.items }
     requires rows { (row : NumberedRow) → Contains rows.now row → IsKnownRow numbering.old.app.now numbering.old.pool row }
     ensures grown { IsGrown numbering.old numbering.new }
-    ensures evaluated { OnOk result (AreRowsEvaluated numbering.old.app.now numbering.old.pool rows.now cells.old.items numbering.new.pool cells.new.items) }
+    ensures evaluated { OnOk result (AreRowsEvaluated numbering.old.app.now numbering.old.pool rows.now cells.old.list.items numbering.new.pool cells.new.list.items) }
 {
     for row in rows {
         evaluate(alloc, numbering, row, cells)?;
@@ -116,13 +115,13 @@ fn evaluate(
     alloc: Global,
     numbering: &mut Numbering,
     row: &NumberedRow,
-    cells: &mut Vec<Kept<Cell<NumberedEntry>>>,
+    cells: &mut Cells<NumberedEntry>,
 ) -> Result<(), Memory>
     requires masks { HasMasks numbering.old.app.now }
-    requires cells { AreNumberedCells numbering.old.app.now numbering.old.pool cells.old.items }
+    requires cells { AreNumberedCells numbering.old.app.now numbering.old.pool cells.old.list.items }
     requires row { IsKnownRow numbering.old.app.now numbering.old.pool row.now }
     ensures grown { IsGrown numbering.old numbering.new }
-    ensures evaluated { OnOk result (AreRowsEvaluated numbering.old.app.now numbering.old.pool (row.now ∷ []) cells.old.items numbering.new.pool cells.new.items) }
+    ensures evaluated { OnOk result (AreRowsEvaluated numbering.old.app.now numbering.old.pool (row.now ∷ []) cells.old.list.items numbering.new.pool cells.new.list.items) }
 {
     let app = numbering.app;
     let groups = exit_groups(alloc, numbering, row.point, &row.entry)?;

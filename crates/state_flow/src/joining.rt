@@ -4,8 +4,7 @@ ghost use Rattle.numbered_sets.specs.Views.{AreNumbersOf};
 ghost use Rattle.point_exits.specs.{declared.group.NumberEnd.{NumberEnd}, Groups.{IsKnownEnd, IsKnownGroup, AreKnownGroups}, Rows.{IsProperRow}};
 ghost use Rattle.state_flow.specs.{Numbering.{AreNumberedCells}, ExitRows.{rows_at, end_row, rows_with, rows_by, all_rows, AreProperRows, AreRowsJoined, IsPart, AreTogether}};
 
-use crate::cells::Cell;
-use crate::kept::Kept;
+use crate::cells::Cells;
 use crate::numbered_cells::put_in;
 use abstract_state::{Point, masks_are_few};
 use numbered_sets::{NumberedEntry, Pool};
@@ -20,12 +19,12 @@ pub fn join_groups(
     app: &App,
     groups: Vec<ExitGroup>,
     pool: &Pool,
-    cells: &mut Vec<Kept<Cell<NumberedEntry>>>,
+    cells: &mut Cells<NumberedEntry>,
 ) -> Result<(), Memory>
     requires known { AreKnownGroups pool.now groups.items }
     requires proper { AreProperRows app.now (all_rows pool.now groups.items) }
-    requires cells { AreNumberedCells app.now pool.now cells.old.items }
-    ensures { OnOk result (AreRowsJoined app.now pool.now cells.old.items (all_rows pool.now groups.items) cells.new.items) }
+    requires cells { AreNumberedCells app.now pool.now cells.old.list.items }
+    ensures { OnOk result (AreRowsJoined app.now pool.now cells.old.list.items (all_rows pool.now groups.items) cells.new.list.items) }
 {
     for group in groups {
         join_group(alloc, app, group, pool, cells)?;
@@ -39,12 +38,12 @@ fn join_group(
     app: &App,
     group: ExitGroup,
     pool: &Pool,
-    cells: &mut Vec<Kept<Cell<NumberedEntry>>>,
+    cells: &mut Cells<NumberedEntry>,
 ) -> Result<(), Memory>
     requires known { IsKnownGroup pool.now group }
     requires proper { AreProperRows app.now (rows_by pool.now group.entry group.ends) }
-    requires cells { AreNumberedCells app.now pool.now cells.old.items }
-    ensures { OnOk result (AreRowsJoined app.now pool.now cells.old.items (rows_by pool.now group.entry group.ends) cells.new.items) }
+    requires cells { AreNumberedCells app.now pool.now cells.old.list.items }
+    ensures { OnOk result (AreRowsJoined app.now pool.now cells.old.list.items (rows_by pool.now group.entry group.ends) cells.new.list.items) }
 {
     let ends = group.ends;
     let entry = group.entry;
@@ -61,12 +60,12 @@ fn join_at(
     points: &[Point],
     entry: &NumberedEntry,
     pool: &Pool,
-    cells: &mut Vec<Kept<Cell<NumberedEntry>>>,
+    cells: &mut Cells<NumberedEntry>,
 ) -> Result<(), Memory>
     requires known { AreNumbersOf pool.now entry.now }
     requires proper { AreProperRows app.now (rows_at pool.now entry.now points.now) }
-    requires cells { AreNumberedCells app.now pool.now cells.old.items }
-    ensures { OnOk result (AreRowsJoined app.now pool.now cells.old.items (rows_at pool.now entry.now points.now) cells.new.items) }
+    requires cells { AreNumberedCells app.now pool.now cells.old.list.items }
+    ensures { OnOk result (AreRowsJoined app.now pool.now cells.old.list.items (rows_at pool.now entry.now points.now) cells.new.list.items) }
 {
     for point in points {
         put_in(alloc, app, pool, cells, *point, entry)?;
@@ -81,13 +80,13 @@ fn join_with(
     ends: &[NumberEnd],
     entry: NumberedEntry,
     pool: &Pool,
-    cells: &mut Vec<Kept<Cell<NumberedEntry>>>,
+    cells: &mut Cells<NumberedEntry>,
 ) -> Result<(), Memory>
     requires known { AreNumbersOf pool.now entry }
     requires ends { (x : NumberEnd) → Contains ends.now x → IsKnownEnd pool.now entry x }
     requires proper { AreProperRows app.now (rows_with pool.now entry ends.now) }
-    requires cells { AreNumberedCells app.now pool.now cells.old.items }
-    ensures { OnOk result (AreRowsJoined app.now pool.now cells.old.items (rows_with pool.now entry ends.now) cells.new.items) }
+    requires cells { AreNumberedCells app.now pool.now cells.old.list.items }
+    ensures { OnOk result (AreRowsJoined app.now pool.now cells.old.list.items (rows_with pool.now entry ends.now) cells.new.list.items) }
 {
     if let Some(target) = joined_target(ends, &entry) {
         masks_are_few(app);
@@ -107,14 +106,14 @@ fn join_end(
     end: &NumberEnd,
     entry: &mut NumberedEntry,
     pool: &Pool,
-    cells: &mut Vec<Kept<Cell<NumberedEntry>>>,
+    cells: &mut Cells<NumberedEntry>,
 ) -> Result<(), Memory>
     requires known { AreNumbersOf pool.now entry.old }
     requires end { IsKnownEnd pool.now entry.old end.now }
     requires proper { IsProperRow app.now (end_row pool.now entry.old end.now) }
-    requires cells { AreNumberedCells app.now pool.now cells.old.items }
+    requires cells { AreNumberedCells app.now pool.now cells.old.list.items }
     ensures entry { OnOk result (entry.new ≡ entry.old) }
-    ensures joined { OnOk result (AreRowsJoined app.now pool.now cells.old.items (end_row pool.now entry.old end.now ∷ []) cells.new.items) }
+    ensures joined { OnOk result (AreRowsJoined app.now pool.now cells.old.list.items (end_row pool.now entry.old end.now ∷ []) cells.new.list.items) }
 {
     let own = entry.sets.set(alloc, end.component)?;
     entry.sets.put(end.component, &end.numbers)?;

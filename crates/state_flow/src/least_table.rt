@@ -5,10 +5,8 @@ ghost use Rattle.abstract_state.specs.{Domains.{HasMasks, domains as domains_of_
 ghost use Rattle.numbered_sets.specs.Pools.{pool_domains, IsLonger};
 ghost use Rattle.state_flow.specs.{Cells.{IsWaitingCell}, Progress.{Progress}, PlainCells.{plain_cells, AreCellsOf}, Numbering.{AreNumberedCells, HasProgress}};
 
-use crate::agenda::Agenda;
-use crate::cells::Cell;
+use crate::cells::Cells;
 use crate::evaluation::turn;
-use crate::kept::Kept;
 use crate::numbered_cells::{put_in, rows};
 use abstract_state::{Domain, LiveVal, PartValue, PlainEntry, Val, masks_are_few};
 use numbered_sets::{NumberedEntry, Pool, Table, numbered};
@@ -33,8 +31,7 @@ pub fn solve<L: Ledger>(alloc: Global, app: &App, steps: &mut Steps<L>) -> Resul
     let mut pool = pool_of(alloc, app)?;
     let mut cells = started(alloc, app, &mut pool)?;
     let mut numbering = Numbering::new(alloc, app, pool)?;
-    let mut agenda = Agenda::new();
-    while let Some(place) = agenda.next(cells.as_slice()) {
+    while let Some(place) = cells.next() {
         steps.tick();
         turn(alloc, &mut numbering, &mut cells, place)?;
     }
@@ -105,16 +102,12 @@ fn domains(alloc: Global, entry: &PlainEntry) -> Result<Vec<Domain>, Memory>
 }
 
 /// The points of the starts, which wait.
-fn started(
-    alloc: Global,
-    app: &App,
-    pool: &mut Pool,
-) -> Result<Vec<Kept<Cell<NumberedEntry>>>, Memory>
+fn started(alloc: Global, app: &App, pool: &mut Pool) -> Result<Cells<NumberedEntry>, Memory>
     requires { pool_domains pool.old ≡ domains_of app.now }
     ensures pool { OnOk result (IsLonger pool.old pool.new) }
-    ensures progress { IfOk result (λ cells. HasProgress app.now pool.new cells.items 0) }
+    ensures progress { IfOk result (λ cells. HasProgress app.now pool.new cells.list.items 0) }
 {
-    let mut cells = Vec::new(alloc);
+    let mut cells = Cells::new(alloc);
     for mode in 0..app.modes.len() {
         let row = start_row(alloc, app, ModeNo(mode as u8))?;
         let entry = numbered(alloc, pool, &row.entry)?;

@@ -4,8 +4,7 @@ ghost use Rattle.numbered_sets.specs.{Views.{plain_entry, AreNumbersOf}, PlainTa
 ghost use Rattle.point_exits.specs.Rows.{IsProperRow};
 ghost use Rattle.state_flow.specs.{Progress.{AreJoined}, PlainCells.{plain_cells, numbered_row, AreCellsOf}, Numbering.{AreNumberedCells}};
 
-use crate::cells::{Cell, join};
-use crate::kept::Kept;
+use crate::cells::Cells;
 use abstract_state::Point;
 use numbered_sets::{NumberedEntry, NumberedRow, Pool};
 use osek_standard::App;
@@ -17,29 +16,26 @@ pub fn put_in(
     alloc: Global,
     app: &App,
     pool: &Pool,
-    cells: &mut Vec<Kept<Cell<NumberedEntry>>>,
+    cells: &mut Cells<NumberedEntry>,
     point: Point,
     entry: &NumberedEntry,
 ) -> Result<(), Memory>
-    requires cells { AreNumberedCells app.now pool.now cells.old.items }
+    requires cells { AreNumberedCells app.now pool.now cells.old.list.items }
     requires known { AreNumbersOf pool.now entry.now }
     requires proper { IsProperRow app.now (row_at point (plain_entry pool.now entry.now)) }
-    ensures cells { OnOk result (AreCellsOf pool.now cells.new.items) }
-    ensures joined { OnOk result (AreJoined app.now (plain_cells pool.now cells.old.items) (row_at point (plain_entry pool.now entry.now) ∷ []) (plain_cells pool.now cells.new.items)) }
+    ensures cells { OnOk result (AreCellsOf pool.now cells.new.list.items) }
+    ensures joined { OnOk result (AreJoined app.now (plain_cells pool.now cells.old.list.items) (row_at point (plain_entry pool.now entry.now) ∷ []) (plain_cells pool.now cells.new.list.items)) }
 {
     pool.are_values();
-    join(alloc, cells, point, entry)
+    cells.join(alloc, point, entry)
 }
 
 /// The rows of cells.
-pub fn rows(
-    alloc: Global,
-    cells: Vec<Kept<Cell<NumberedEntry>>>,
-) -> Result<Seq<NumberedRow>, Memory>
-    ensures { IfOk result (λ rows. rows ≡ map numbered_row cells.items) }
+pub fn rows(alloc: Global, cells: Cells<NumberedEntry>) -> Result<Seq<NumberedRow>, Memory>
+    ensures { IfOk result (λ rows. rows ≡ map numbered_row cells.list.items) }
 {
-    let mut rows = Seq::of(Vec::with_capacity(alloc, cells.len())?);
-    for cell in cells {
+    let mut rows = Seq::of(Vec::with_capacity(alloc, cells.list.len())?);
+    for cell in cells.list {
         let cell = cell.into_value();
         rows.push(NumberedRow {
             point: cell.point,

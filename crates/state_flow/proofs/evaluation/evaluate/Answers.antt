@@ -25,7 +25,7 @@ join_groups-requires-clause-proper c =
     c.in_ok-groups.ensures.known c.in_ok-groups.ensures.exits
 
 pub join_groups-requires-clause-cells : goal.join_groups-requires-clause-cells
-join_groups-requires-clause-cells c = cells_on c.args.numbering.now.app.now c.args.numbering.now.pool c.exit_groups.new.numbering.pool c.args.cells.now.items c.exit_groups.ensures.grown.pool c.requires.cells
+join_groups-requires-clause-cells c = cells_on c.args.numbering.now.app.now c.args.numbering.now.pool c.exit_groups.new.numbering.pool c.args.cells.now.list.items c.exit_groups.ensures.grown.pool c.requires.cells
 
 pub returns-clause-evaluated : goal.returns-clause-evaluated
 returns-clause-evaluated c =
@@ -35,8 +35,8 @@ returns-clause-evaluated c =
     let after = c.exit_groups.new.numbering.pool in
     let longer = c.exit_groups.ensures.grown.pool in
     let groups = c.in_ok-groups.groups.items in
-    let cells = c.args.cells.now.items in
-    let end = c.join_groups.new.cells.items in
+    let cells = c.args.cells.now.list.items in
+    let end = c.join_groups.new.cells.list.items in
     on_ok_weaker c.join_groups.result
     (λ joined. record {
       known = joined.known;

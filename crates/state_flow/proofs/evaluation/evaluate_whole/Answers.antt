@@ -12,9 +12,9 @@ exit_groups-requires c =
     let app = c.args.numbering.now.app.now in
     let pool = c.args.numbering.now.pool in
     let cell = c.get_mut-cell.result.now in
-    let here = lent_there c.args.cells.now.items c.args.place c.index_mut.result.now c.get_mut-cell.result.now c.get_mut-cell.ensures.value c.index_mut.ensures.value in
-    let numbers = numbers_there app pool c.args.cells.now.items c.args.place cell c.requires.cells c.requires.waits here in
-    let proper = proper_there app pool c.args.cells.now.items c.args.place cell c.requires.cells c.requires.waits here in
+    let here = lent_there c.args.cells.now.list.items c.args.place c.index_mut.result.now c.get_mut-cell.result.now c.get_mut-cell.ensures.value c.index_mut.ensures.value in
+    let numbers = numbers_there app pool c.args.cells.now.list.items c.args.place cell c.requires.cells c.requires.waits here in
+    let proper = proper_there app pool c.args.cells.now.list.items c.args.place cell c.requires.cells c.requires.waits here in
     record { point = proper.row.point; numbers = numbers; filled = numbers_filled app c.requires.masks cell.point pool cell.entry numbers proper; allowed = proper.allowed }
 
 pub join_groups-requires-clause-known : goal.join_groups-requires-clause-known
@@ -25,31 +25,31 @@ join_groups-requires-clause-proper c =
     let app = c.args.numbering.now.app.now in
     let pool = c.args.numbering.now.pool in
     let cell = c.get_mut-cell.result.now in
-    let here = lent_there c.args.cells.now.items c.args.place c.index_mut.result.now c.get_mut-cell.result.now c.get_mut-cell.ensures.value c.index_mut.ensures.value in
-    let numbers = numbers_there app pool c.args.cells.now.items c.args.place cell c.requires.cells c.requires.waits here in
-    rows_proper app c.requires.masks cell.point pool cell.entry numbers (proper_there app pool c.args.cells.now.items c.args.place cell c.requires.cells c.requires.waits here)
+    let here = lent_there c.args.cells.now.list.items c.args.place c.index_mut.result.now c.get_mut-cell.result.now c.get_mut-cell.ensures.value c.index_mut.ensures.value in
+    let numbers = numbers_there app pool c.args.cells.now.list.items c.args.place cell c.requires.cells c.requires.waits here in
+    rows_proper app c.requires.masks cell.point pool cell.entry numbers (proper_there app pool c.args.cells.now.list.items c.args.place cell c.requires.cells c.requires.waits here)
     c.exit_groups.new.numbering.pool c.exit_groups.ensures.grown.pool c.in_ok-groups.groups.items c.in_ok-groups.ensures.known c.in_ok-groups.ensures.exits
 
 pub join_groups-requires-clause-cells : goal.join_groups-requires-clause-cells
 join_groups-requires-clause-cells c =
     let app = c.args.numbering.now.app.now in
     let pool = c.args.numbering.now.pool in
-    let cells = c.args.cells.now.items in
+    let cells = c.args.cells.now.list.items in
     let cell = c.get_mut-cell.result.now in
     cells_on app pool c.exit_groups.new.numbering.pool (set cells c.args.place (asked cell None)) c.exit_groups.ensures.grown.pool
-    (asked_cells app pool cells c.args.place cell c.requires.cells c.requires.waits (lent_there c.args.cells.now.items c.args.place c.index_mut.result.now c.get_mut-cell.result.now c.get_mut-cell.ensures.value c.index_mut.ensures.value) None (nothing_kept cell))
+    (asked_cells app pool cells c.args.place cell c.requires.cells c.requires.waits (lent_there c.args.cells.now.list.items c.args.place c.index_mut.result.now c.get_mut-cell.result.now c.get_mut-cell.ensures.value c.index_mut.ensures.value) None (nothing_kept cell))
 
 pub returns-clause-progress : goal.returns-clause-progress
 returns-clause-progress c =
     let app = c.args.numbering.now.app.now in
     let pool = c.args.numbering.now.pool in
-    let cells = c.args.cells.now.items in
+    let cells = c.args.cells.now.list.items in
     let cell = c.get_mut-cell.result.now in
-    let here = lent_there c.args.cells.now.items c.args.place c.index_mut.result.now c.get_mut-cell.result.now c.get_mut-cell.ensures.value c.index_mut.ensures.value in
+    let here = lent_there c.args.cells.now.list.items c.args.place c.index_mut.result.now c.get_mut-cell.result.now c.get_mut-cell.ensures.value c.index_mut.ensures.value in
     let after = c.exit_groups.new.numbering.pool in
     let longer = c.exit_groups.ensures.grown.pool in
     let groups = c.in_ok-groups.groups.items in
-    let end = c.join_groups.new.cells.items in
+    let end = c.join_groups.new.cells.list.items in
     let row : NumberedRow = record { point = cell.point; entry = cell.entry } in
     let numbers = numbers_there app pool cells c.args.place cell c.requires.cells c.requires.waits here in
     let proper = proper_there app pool cells c.args.place cell c.requires.cells c.requires.waits here in

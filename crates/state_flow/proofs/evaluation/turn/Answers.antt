@@ -5,7 +5,7 @@ use Rattle.state_flow.specs.Numbering.{AreNumberedCells, HasProgress}
 use Rattle.state_flow.proofs.evaluation.turn.Goals as goal
 
 pub evaluate_point-requires-clause-cells : goal.evaluate_point-requires-clause-cells
-evaluate_point-requires-clause-cells c = subst (λ (pool : List Values). AreNumberedCells c.args.numbering.now.app.now pool c.args.cells.now.items) (sym c.turn_to.ensures) c.requires.cells
+evaluate_point-requires-clause-cells c = subst (λ (pool : List Values). AreNumberedCells c.args.numbering.now.app.now pool c.args.cells.now.list.items) (sym c.turn_to.ensures) c.requires.cells
 
 pub returns-clause-grown : goal.returns-clause-grown
 returns-clause-grown c =
@@ -15,6 +15,6 @@ returns-clause-grown c =
 pub returns-clause-progress : goal.returns-clause-progress
 returns-clause-progress c =
     let app = c.args.numbering.now.app.now in
-    let end = c.evaluate_point.new.cells.items in
-    subst (λ (pool : List Values). OnOk c.evaluate_point.result ((n : ℕ) → HasProgress app pool c.args.cells.now.items n → HasProgress app c.evaluate_point.new.numbering.pool end (n + 1)))
+    let end = c.evaluate_point.new.cells.list.items in
+    subst (λ (pool : List Values). OnOk c.evaluate_point.result ((n : ℕ) → HasProgress app pool c.args.cells.now.list.items n → HasProgress app c.evaluate_point.new.numbering.pool end (n + 1)))
     c.turn_to.ensures c.evaluate_point.ensures.progress

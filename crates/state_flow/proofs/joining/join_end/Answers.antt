@@ -40,6 +40,6 @@ returns-clause-entry c =
 pub returns-clause-joined : goal.returns-clause-joined
 returns-clause-joined c = record {
   known = c.in_ok-put_in.ensures.cells;
-  joined = subst (λ (e : NumberedEntry). AreJoined c.args.app.now (plain_cells c.args.pool.now c.args.cells.now.items) (row_at c.args.end.now.target (plain_entry c.args.pool.now e) ∷ []) (plain_cells c.args.pool.now c.put_in.new.cells.items)) (now_holds c.args.entry.now (record { sets = c.put.new.self }) c.args.end.now.component c.args.end.now.numbers c.in_ok-put.ensures.sets)
+  joined = subst (λ (e : NumberedEntry). AreJoined c.args.app.now (plain_cells c.args.pool.now c.args.cells.now.list.items) (row_at c.args.end.now.target (plain_entry c.args.pool.now e) ∷ []) (plain_cells c.args.pool.now c.put_in.new.cells.list.items)) (now_holds c.args.entry.now (record { sets = c.put.new.self }) c.args.end.now.component c.args.end.now.numbers c.in_ok-put.ensures.sets)
       c.in_ok-put_in.ensures.joined;
 }

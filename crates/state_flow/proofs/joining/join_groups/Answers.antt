@@ -21,6 +21,6 @@ loop-group-preserved c =
     let pool = c.args.pool.now in
     let done = c.loop-group.yielded in
     let group = c.in-Some.group in
-    let after = c.join_group.new.cells.items in
-    subst (λ (rows : List TableRow). AreRowsJoined app pool c.args.cells.now.items rows after) (groups_more pool done group)
-    (joined_more app pool c.args.cells.now.items c.loop-group.cells.items after (all_rows pool done) (group_rows pool group) c.loop-group.invariant c.in_ok-join_group.ensures)
+    let after = c.join_group.new.cells.list.items in
+    subst (λ (rows : List TableRow). AreRowsJoined app pool c.args.cells.now.list.items rows after) (groups_more pool done group)
+    (joined_more app pool c.args.cells.now.list.items c.loop-group.cells.list.items after (all_rows pool done) (group_rows pool group) c.loop-group.invariant c.in_ok-join_group.ensures)

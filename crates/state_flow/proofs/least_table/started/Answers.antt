@@ -13,7 +13,7 @@ use Rattle.state_flow.proofs.least_table.started.Goals as goal
 
 pub put_in-requires-clause-cells : goal.put_in-requires-clause-cells
 put_in-requires-clause-cells c =
-    cells_on c.args.app.now c.loop-mode.pool c.numbered.new.pool c.loop-mode.cells.items c.in_ok-entry.ensures.pool
+    cells_on c.args.app.now c.loop-mode.pool c.numbered.new.pool c.loop-mode.cells.list.items c.in_ok-entry.ensures.pool
     (record { known = c.loop-mode.invariant.1; proper = c.loop-mode.invariant.2.cells_proper })
 
 pub put_in-requires-clause-proper : goal.put_in-requires-clause-proper
@@ -24,8 +24,8 @@ loop-mode-preserved c =
     let app = c.args.app.now in
     let pool = c.loop-mode.pool in
     let new = c.numbered.new.pool in
-    let cells = c.loop-mode.cells.items in
-    let after = c.put_in.new.cells.items in
+    let cells = c.loop-mode.cells.list.items in
+    let after = c.put_in.new.cells.list.items in
     let row = c.in_ok-row.row in
     let joined : AreJoined app (plain_cells pool cells) (row ∷ []) (plain_cells new after) =
     subst (λ (xs : List (Cell PlainEntry)). AreJoined app xs (row ∷ []) (plain_cells new after)) (cells_same pool new cells c.in_ok-entry.ensures.pool c.loop-mode.invariant.1)
@@ -39,5 +39,5 @@ loop-mode-preserved c =
 pub returns-clause-progress : goal.returns-clause-progress
 returns-clause-progress c = record {
   known = c.loop-mode.invariant.1;
-  progress = started_all c.args.app.now c.loop-mode.mode (plain_cells c.loop-mode.pool c.loop-mode.cells.items) (omega (arith, c.loop-mode-test.false, c.len-mode-end.ensures)) c.loop-mode.invariant.2;
+  progress = started_all c.args.app.now c.loop-mode.mode (plain_cells c.loop-mode.pool c.loop-mode.cells.list.items) (omega (arith, c.loop-mode-test.false, c.len-mode-end.ensures)) c.loop-mode.invariant.2;
 }
