@@ -11,3 +11,4 @@ pub mod ResourceCases
 pub mod WaitingCases
 pub mod WaitEffects
 pub mod ChainCases
+pub mod KeptConditions

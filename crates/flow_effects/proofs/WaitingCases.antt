@@ -178,14 +178,14 @@ module _ (app : App) (t : TaskNo) (b : BlockNo) (owns : OwnsBlock app (runner.Ta
     goes_listed y n = let back = map_among (goes_on_by app t next) y events n in subst (IsCase app r b) (sym back.2) (tt, goes_is back.0 back.1)
 
     -- none is
-    waits_is : IsEffect app r b (waits app t b events)
+    waits_is : IsEffect app r b (waits app t b m)
     waits_is s choice h passing =
         let unset : (k : ℕ) → Among k events → has_bit (task_state s t.0).events.0 k ≡ false
         = λ k among. event_is s k false among (each_passes app (abstract_of app s) (nothing ∷ map (of_event app t false) events) passing (of_event app t false k) (inr (among_map (of_event app t false) k events among)) (event_counted k among)) in
         let none : share (task_state s t.0).events.0 m.0 ≡ false = no_share (task_state s t.0).events.0 m.0 (the_task app t.0).own.0 (h.well.tasks t.0 owns.0).events (few t.0 no_task owns.0) unset in
         let there : t.0 < length s.tasks = let long = h.well.tasks_len in let lt = owns.0 in omega (arith, lt, long) in
         let x : TaskState = record (task_state s t.0) { activity = activity.Waiting (here s).block } in
-        has_effect app (waits app t b events) s choice (noted app (accepted (waiting s) ask.Left))
+        has_effect app (waits app t b m) s choice (noted app (accepted (waiting s) ask.Left))
         (wait_effect s choice (accepted (waiting s) ask.Left) h (wait_waits s extended (free_of s (map (of_event app t false) events) passing) none)) passing refl
         (λ c lt. left_parts (with_task s t.0 (record (task_state s t.0) { activity = activity.Waiting (here s).block })) (component_at app c)
         ∙ activity_parts app s t.0 (record (task_state s t.0) { activity = activity.Waiting (here s).block }) there refl (update.Set (OfTask (Waiting b))) owns.0 (ap (λ (d : BlockNo). OfTask (Waiting d)) (sym h.block)) c lt)
@@ -205,7 +205,7 @@ module _ (app : App) (t : TaskNo) (b : BlockNo) (owns : OwnsBlock app (runner.Ta
           ]);
         }
         | inr unset ↦ record {
-          case = waits app t b events;
+          case = waits app t b m;
           among = inr (inl refl);
           passes = passes_each app (abstract_of app s) (nothing ∷ map (of_event app t false) events) (λ z n. elim n [
             | inl e ↦ subst (λ (y : Condition). IsTrue (passes y.test (abstract_of app s y.component.0))) (sym e) (none_holds app s t owns.0 free)
@@ -219,8 +219,8 @@ module _ (app : App) (t : TaskNo) (b : BlockNo) (owns : OwnsBlock app (runner.Ta
 
     all_extended : AreCasesOf app (runner_point r b) (extended_cases app t b next m)
     all_extended = are_cases app r b owns (extended_cases app t b next m)
-        (more_listed app r b (refused_holding t next) (waits app t b events ∷ map (goes_on_by app t next) events) (tt, refused_is)
-        (more_listed app r b (waits app t b events) (map (goes_on_by app t next) events) (tt, waits_is) goes_listed))
+        (more_listed app r b (refused_holding t next) (waits app t b m ∷ map (goes_on_by app t next) events) (tt, refused_is)
+        (more_listed app r b (waits app t b m) (map (goes_on_by app t next) events) (tt, waits_is) goes_listed))
         (λ s h. extended_taken s h)
 
   pub wait_task_cases : HasMasks app → AreCasesOf app (runner_point r b) (wait_cases app r b next m)

@@ -1,5 +1,6 @@
 -- Cases that differ in one condition alone, as those of WaitEvent in which the task goes on.
 use Rattle.std.specs.{Prelude.{◌≡◌, ◌≢◌, ◌<◌, true, List, [], ◌∷◌, ◌++◌, map, Some, None, Contains}, declared.option.Option.{Option}}
+use Rattle.osek_values.specs.declared.{mask.Mask.{Mask}, numbers.TaskNo.{TaskNo}}
 use Rattle.osek_values.specs.declared.status.Status.TheVariants as status
 use Rattle.osek_standard.specs.declared.app.App.{App}
 use Rattle.osek_standard.specs.declared.point.Point.{Point}
@@ -13,9 +14,9 @@ use Rattle.flow_model.specs.declared.case.Stay.TheVariants as stay
 use Rattle.flow_model.specs.declared.test.Test.TheVariants as test
 use Rattle.flow_model.specs.declared.runner.Runner.TheVariants as runner
 use Rattle.flow_model.specs.{Cases.{effect_by, goes_on}, Runners.{OwnsBlock}, Tests.{value_after}}
-use Rattle.flow_effects.specs.declared.{effects.{Alternatives.{Alternatives}, Effects.{Effects}}, waiting.Wait.{Wait}}
+use Rattle.flow_effects.specs.declared.{effects.{Alternatives.{Alternatives}, Effects.{Effects}}, waiting.{Wait.{Wait}, WaitConditions.{WaitConditions}}}
 use Rattle.flow_effects.specs.CallNames as call
-use Rattle.flow_effects.specs.{Conditions.{of_task}, TaskEnds.{refused_holding}, Waiting.{of_event, awaited_events, waits}}
+use Rattle.flow_effects.specs.{Conditions.{of_task}, TaskEnds.{refused_holding}, Waiting.{of_event, awaited_events, waiting_conditions, waits_by}}
 
 -- the case with one condition more
 abbrev pub with_condition : EffectCase → Condition → EffectCase
@@ -50,12 +51,19 @@ pub record IsWaitAt (app : App) (p : Point) (w : Wait) : Type 0 where
   pub next : w.next ≡ (the_block app w.block.0).next
   pub extended : is_extended app w.task.0 ≡ true
 
+-- what its task and its mask ask, wherever it stands
+abbrev pub wait_conditions : App → TaskNo → Mask → WaitConditions
+wait_conditions app t m = record { waits = waiting_conditions app t m; goes_on = map (of_event app t true) (awaited_events app t m) }
+
 -- an event is set, and the task goes on
+abbrev pub going_on_by : Wait → List Condition → Alternatives
+going_on_by w conditions = record { effect = goes_on (runner.Task w.task) w.next (of_task w.task test.HoldsNothing ∷ []) asked.No (Some status.Ok); conditions = conditions }
+
+abbrev pub effects_by : Wait → WaitConditions → Effects
+effects_by w x = record { cases = refused_holding w.task w.next ∷ waits_by w.task w.block x.waits ∷ []; alternatives = Some (going_on_by w x.goes_on); wait = Some w }
+
 abbrev pub going_on : App → Wait → Alternatives
-going_on app w = record {
-  effect = goes_on (runner.Task w.task) w.next (of_task w.task test.HoldsNothing ∷ []) asked.No (Some status.Ok);
-  conditions = map (of_event app w.task true) (awaited_events app w.task w.mask);
-}
+going_on app w = going_on_by w (wait_conditions app w.task w.mask).goes_on
 
 abbrev pub wait_effects : App → Wait → Effects
-wait_effects app w = record { cases = refused_holding w.task w.next ∷ waits app w.task w.block (awaited_events app w.task w.mask) ∷ []; alternatives = Some (going_on app w) }
+wait_effects app w = effects_by w (wait_conditions app w.task w.mask)

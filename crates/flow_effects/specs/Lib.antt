@@ -6,5 +6,6 @@ pub mod Resources
 pub mod RoutineResources
 pub mod Waiting
 pub mod Alternatives
+pub mod KnownWaits
 pub mod Outs
 pub mod Returns

@@ -40,12 +40,17 @@ abbrev pub goes_on_by : App → TaskNo → BlockNo → ℕ → EffectCase
 goes_on_by app t n k = goes_on (runner.Task t) n (of_task t test.HoldsNothing ∷ of_event app t true k ∷ []) asked.No (Some status.Ok)
 
 -- none is set, and the task waits where it stands
-abbrev pub waits : App → TaskNo → BlockNo → List ℕ → EffectCase
-waits app t b events =
-    effect_case (of_task t test.HoldsNothing ∷ map (of_event app t false) events) (change t.0 (update.Set (OfTask (Waiting b))) ∷ []) asked.Left (Some status.Ok) point.Idle
+abbrev pub waiting_conditions : App → TaskNo → Mask → List Condition
+waiting_conditions app t m = of_task t test.HoldsNothing ∷ map (of_event app t false) (awaited_events app t m)
+
+abbrev pub waits_by : TaskNo → BlockNo → List Condition → EffectCase
+waits_by t b conditions = effect_case conditions (change t.0 (update.Set (OfTask (Waiting b))) ∷ []) asked.Left (Some status.Ok) point.Idle
+
+abbrev pub waits : App → TaskNo → BlockNo → Mask → EffectCase
+waits app t b m = waits_by t b (waiting_conditions app t m)
 
 abbrev pub extended_cases : App → TaskNo → BlockNo → BlockNo → Mask → List EffectCase
-extended_cases app t b n m = refused_holding t n ∷ waits app t b (awaited_events app t m) ∷ map (goes_on_by app t n) (awaited_events app t m)
+extended_cases app t b n m = refused_holding t n ∷ waits app t b m ∷ map (goes_on_by app t n) (awaited_events app t m)
 
 abbrev pub wait_cases : App → Runner → BlockNo → BlockNo → Mask → List EffectCase
 wait_cases app (runner.Task t) b n m =

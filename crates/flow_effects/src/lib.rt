@@ -4,6 +4,7 @@
 mod conditions;
 mod effects;
 mod instruction;
+mod known_waits;
 mod moves;
 mod resources;
 mod returns;
@@ -11,5 +12,7 @@ mod routine_resources;
 mod task_ends;
 mod waiting;
 
-pub use effects::{Alternatives, Effects, effects_at};
+pub use effects::{Alternatives, Effects};
 pub use instruction::effect_cases;
+pub use known_waits::{KnownWait, KnownWaits};
+pub use waiting::{Wait, WaitConditions};

@@ -3,7 +3,7 @@ ghost use Rattle.std.specs.Prelude.{◌≡◌, ◌<◌, ◌++◌, ◌∷◌, [],
 ghost use Rattle.osek_values.specs.Bits.{has_bit};
 ghost use Rattle.osek_standard.specs.Apps.{the_task, is_extended};
 ghost use Rattle.flow_model.specs.Runners.{IsKnown};
-ghost use Rattle.flow_effects.specs.Waiting.{of_event, awaited_events, goes_on_by, waits, extended_cases, wait_cases, event_component, IsBeforeEvent};
+ghost use Rattle.flow_effects.specs.Waiting.{of_event, awaited_events, goes_on_by, extended_cases, wait_cases, event_component, IsBeforeEvent, waiting_conditions, waits_by};
 
 use crate::conditions::{if_task, of_task};
 use crate::effects::{Alternatives, Effects};
@@ -147,20 +147,31 @@ fn add_asked(
     Ok(())
 }
 
-/// The case in which none of the events is set, and the task waits.
-fn waits(
+// what is asked where the task waits
+fn waiting_conditions(
     alloc: Global,
     app: &App,
     task: TaskNo,
-    block: BlockNo,
     mask: Mask,
-) -> Result<EffectCase, Memory>
+) -> Result<Seq<Condition>, Memory>
     requires { task.0 < length app.now.tasks }
-    ensures { IfOk result (λ case. case ≡ waits app.now task block (awaited_events app.now task mask)) }
+    ensures { IfOk result (λ conditions. conditions ≡ waiting_conditions app.now task mask) }
 {
     let mut conditions = room_for(alloc, app, task, mask)?;
     conditions.push(of_task(task, Test::HoldsNothing))?;
     add_events(app, &mut conditions, task, mask, false)?;
+    Ok(conditions)
+}
+
+/// The case in which none of the events is set, and the task waits.
+fn waits(
+    alloc: Global,
+    task: TaskNo,
+    block: BlockNo,
+    conditions: Seq<Condition>,
+) -> Result<EffectCase, Memory>
+    ensures { IfOk result (λ case. case ≡ waits_by task block conditions) }
+{
     let mut changes = Seq::new(alloc);
     changes.push(Change {
         component: ComponentNo(task.0 as u16),
@@ -187,7 +198,8 @@ fn extended_cases(
 {
     let mut cases = Seq::new(alloc);
     cases.push(refused_holding(alloc, task, next)?)?;
-    cases.push(waits(alloc, app, task, block, mask)?)?;
+    let conditions = waiting_conditions(alloc, app, task, mask)?;
+    cases.push(waits(alloc, task, block, conditions)?)?;
     add_goes_on(alloc, app, &mut cases, task, next, mask)?;
     Ok(cases)
 }
@@ -224,10 +236,17 @@ pub struct Wait {
     pub mask: Mask,
 }
 
+/// What the WaitEvents of a task with a mask ask, wherever they stand: where the task waits, and by which it goes on.
+#[derive(Drop)]
+pub struct WaitConditions {
+    pub waits: Seq<Condition>,
+    pub goes_on: Seq<Condition>,
+}
+
 impl Wait {
     ghost use Rattle.std.specs.Prelude.{◌≡◌, ◌<◌, length, IfOk, IfSome};
     ghost use Rattle.osek_standard.specs.Points.{IsPoint};
-    ghost use Rattle.flow_effects.specs.Alternatives.{IsWaitAt, going_on, wait_effects};
+    ghost use Rattle.flow_effects.specs.Alternatives.{IsWaitAt, effects_by};
 
     /// The one at a point, if it stands there.
     pub fn at(app: &App, point: Point) -> Option<Wait>
@@ -252,31 +271,40 @@ impl Wait {
         }
     }
 
-    /// Its effects: the task goes on since some event is set, or waits, or is refused.
-    pub fn effects(self, alloc: Global, app: &App) -> Result<Effects, Memory>
-        requires { self.task.0 < length app.now.tasks }
-        ensures { IfOk result (λ effects. effects ≡ wait_effects app.now self) }
+    /// Its effects by its conditions: the task goes on since some event is set, or waits, or is refused.
+    pub fn effects(self, alloc: Global, conditions: WaitConditions) -> Result<Effects, Memory>
+        ensures { IfOk result (λ effects. effects ≡ effects_by self conditions) }
     {
         let mut cases = Seq::new(alloc);
         cases.push(refused_holding(alloc, self.task, self.next)?)?;
-        cases.push(waits(alloc, app, self.task, self.block, self.mask)?)?;
-        let going_on = self.going_on(alloc, app)?;
-        Ok(Effects {
-            cases,
-            alternatives: Some(going_on),
-        })
-    }
-
-    // the cases in which the task goes on
-    fn going_on(self, alloc: Global, app: &App) -> Result<Alternatives, Memory>
-        requires { self.task.0 < length app.now.tasks }
-        ensures { IfOk result (λ x. x ≡ going_on app.now self) }
-    {
+        cases.push(waits(alloc, self.task, self.block, conditions.waits)?)?;
         let free = if_task(alloc, self.task, Test::HoldsNothing)?;
         let runner = Runner::Task(self.task);
         let effect = runner.goes_on(alloc, self.next, free, Asked::No, Some(Status::Ok))?;
-        let mut conditions = room_for(alloc, app, self.task, self.mask)?;
-        add_events(app, &mut conditions, self.task, self.mask, true)?;
-        Ok(Alternatives { effect, conditions })
+        let going_on = Alternatives {
+            effect,
+            conditions: conditions.goes_on,
+        };
+        Ok(Effects {
+            cases,
+            alternatives: Some(going_on),
+            wait: Some(self),
+        })
+    }
+}
+
+impl WaitConditions {
+    ghost use Rattle.std.specs.Prelude.{◌≡◌, ◌<◌, length, IfOk};
+    ghost use Rattle.flow_effects.specs.Alternatives.{wait_conditions};
+
+    /// Those of the WaitEvents of a task with a mask.
+    pub fn new(alloc: Global, app: &App, task: TaskNo, mask: Mask) -> Result<WaitConditions, Memory>
+        requires { task.0 < length app.now.tasks }
+        ensures { IfOk result (λ conditions. conditions ≡ wait_conditions app.now task mask) }
+    {
+        let waits = waiting_conditions(alloc, app, task, mask)?;
+        let mut goes_on = room_for(alloc, app, task, mask)?;
+        add_events(app, &mut goes_on, task, mask, true)?;
+        Ok(WaitConditions { waits, goes_on })
     }
 }

@@ -1,11 +1,12 @@
 -- The ends of cases that differ in one condition alone.
-use Rattle.std.specs.Prelude.{◌≡◌, ◌⊎◌, ℕ, ◌<◌, List, length, IsTrue, Contains}
+use Rattle.std.specs.Prelude.{◌≡◌, ◌⊎◌, ℕ, ◌<◌, List, length, IsTrue, IfSome, Contains}
 use Rattle.osek_standard.specs.declared.{app.App.{App}, point.Point.{Point}}
 use Rattle.abstract_state.specs.{declared.{value.PartValue.{PartValue}, table.PlainEntry.{PlainEntry}}, Domains.{IsWithin}, Tables.{set_at, is_member}}
 use Rattle.flow_model.specs.declared.{case.EffectCase.{EffectCase}, test.Condition.{Condition}}
 use Rattle.numbered_sets.specs.{declared.numbered_entry.NumberedEntry.{NumberedEntry}, Numbers.{Numbers}, NumberedEntries.{numbers_at}}
 use Rattle.numbered_sets.specs.{Passing.{IsSifted}, Pools.{Values, values_at}, Views.{plain_entry, AreNumbersOf}}
-use Rattle.flow_effects.specs.{declared.effects.Alternatives.{Alternatives}, Alternatives.{alternative_cases, AreApart}}
+use Rattle.flow_model.specs.Effects.{HaveKnownStays}
+use Rattle.flow_effects.specs.{declared.effects.{Alternatives.{Alternatives}, Effects.{Effects}}, Alternatives.{alternative_cases, all_cases, AreApart}}
 use Rattle.flow_exits.specs.Leaving.{effect_rule}
 use Rattle.point_exits.specs.{declared.group.NumberEnd.{NumberEnd}, Applying.{KeepsDomains}}
 
@@ -20,6 +21,14 @@ pub record MayApplyEach (app : App) (alternatives : Alternatives) (pool : List V
   pub own : HasOwnValues (plain_entry pool entry)
   pub apart : AreApart app alternatives
   pub kept : (x : EffectCase) → Contains (alternative_cases alternatives) x → KeepsDomains (effect_rule x) (plain_entry pool entry)
+
+-- All cases of these effects can be applied to numbers.
+pub record MayTakeAll (app : App) (effects : Effects) (pool : List Values) (entry : NumberedEntry) : Type 0 where
+  pub numbers : AreNumbersOf pool entry
+  pub own : HasOwnValues (plain_entry pool entry)
+  pub stays : HaveKnownStays app (all_cases effects)
+  pub apart : IfSome effects.alternatives (AreApart app)
+  pub kept : (x : EffectCase) → Contains (all_cases effects) x → KeepsDomains (effect_rule x) (plain_entry pool entry)
 
 -- the numbers are those of the entry's values that pass
 abbrev pub IsSiftedFor : List Values → NumberedEntry → Condition → Numbers → Type 0

@@ -1,5 +1,5 @@
 -- Facts that structs keep: each has one proof at most.
-use Rattle.std.specs.{Prelude.{◌≡◌, ℕ, List, Some, None, slice_index_or}, Coded.{Unit-prop, le_prop}}
+use Rattle.std.specs.{Prelude.{◌≡◌, ℕ, List, Some, None, IfSome, slice_index_or}, Coded.{Unit-prop, le_prop}, declared.option.Option.{Option}}
 use Rattle.std.proofs.Props.{props}
 use Rattle.osek_standard.specs.declared.app.App.{App}
 use Rattle.abstract_state.specs.declared.value.{Domain.{Domain}, PartValue.{PartValue}}
@@ -10,6 +10,8 @@ use Rattle.flow_model.specs.declared.case.Decision.TheVariants as decision
 use Rattle.flow_model.specs.declared.runner.Runner.TheVariants as runner
 use Rattle.flow_model.specs.{Runners.{IsRunnerOf}, Effects.{IsKnownStay}}
 use Rattle.numbered_sets.specs.{declared.numbered_entry.NumberedEntry.{NumberedEntry}, Pools.{Values}}
+use Rattle.flow_effects.specs.declared.{known_waits.KnownWait.{KnownWait}, waiting.WaitConditions.{WaitConditions}}
+use Rattle.flow_effects.specs.{Alternatives.{wait_conditions}, KnownWaits.{AreKnownWaits}}
 use Rattle.point_exits.specs.declared.{arrivals.ArrivalsOver.{ArrivalsOver}, insides.Insides.{Insides}, levels.Levels.{Levels}, task_levels.{Level.{Level}, TaskLevels.{TaskLevels}}}
 use Rattle.point_exits.specs.{Changing.{AreInOrder}, Arrivals.{AreKnownArrivals}, Levels.{IsLiveAt, AreTaskLevels, AreInsides, AreLevels, AreAllLevels}, Narrowing.{AreNeeds}, Deciding.{IsWhole, IsDecidable, IsKnownDecision, IsDecided, IsAlive, IsAsked, IsLevelOf}}
 
@@ -37,6 +39,17 @@ AreLevels-prop app pool levels = hlevel (props, AreTaskLevels-prop, AreInsides-p
 
 pub AreAllLevels-prop : (app : App) (pool : List Values) (levels : Levels) → IsProp (AreAllLevels app pool levels)
 AreAllLevels-prop app pool levels = hlevel (props, AreLevels-prop)
+
+-- ---- the conditions of WaitEvents
+
+SameConditions-prop : (x : WaitConditions) (o : Option WaitConditions) → IsProp (IfSome o (λ y. y ≡ x))
+SameConditions-prop x None = Unit-prop
+SameConditions-prop x (Some y) = hlevel props
+
+pub AreKnownWaits-prop : (app : App) (known : List KnownWait) → IsProp (AreKnownWaits app known)
+AreKnownWaits-prop app known f g = λ k i d lt.
+    let x = slice_index_or known i d in
+    SameConditions-prop (wait_conditions app x.task x.mask) x.conditions (f i d lt) (g i d lt) k
 
 -- ---- the values after an effect
 

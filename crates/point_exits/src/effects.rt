@@ -6,7 +6,7 @@ use crate::group::ExitGroup;
 use crate::numbering::Numbering;
 use crate::settled::Settling;
 use abstract_state::{PartValue, Point, SourceVal};
-use flow_effects::effects_at;
+use flow_effects::Effects;
 use flow_model::{EffectCase, Test};
 use numbered_sets::NumberedEntry;
 use osek_standard::Kind;
@@ -17,9 +17,9 @@ impl<'a> Numbering<'a> {
     ghost use Rattle.std.specs.Prelude.{◌∷◌, [], IfOk, OnOk, IfSome, IfNone};
     ghost use Rattle.flow_model.specs.Rules.{HasNone};
     ghost use Rattle.numbered_sets.specs.Views.{plain_entry};
-    ghost use Rattle.flow_effects.specs.Outs.{AreOutIn};
+    ghost use Rattle.flow_effects.specs.{Outs.{AreOutIn}, Alternatives.{all_cases}};
     ghost use Rattle.flow_exits.specs.Leaving.{effect_rule};
-    ghost use Rattle.point_exits.specs.{Applying.{MayApply}, Groups.{AreKnownGroups}, Growing.{IsGrown}};
+    ghost use Rattle.point_exits.specs.{Alternatives.{MayTakeAll}, Applying.{MayApply}, Groups.{AreKnownGroups}, Growing.{IsGrown}};
     ghost use Rattle.point_exits.specs.{Leaving.{MayTakeEffect, IsAfter, AddsEffects, AddsInstructions}, PointNumbers.{AreNumbersAt}};
 
     /// Adds the exits of the instruction of a task's or a routine's point.
@@ -36,7 +36,26 @@ impl<'a> Numbering<'a> {
         ensures added { OnOk result (AddsInstructions self.old.app.now point (plain_entry self.old.pool before.now) self.old.pool groups.old.items self.new.pool groups.new.items) }
     {
         let outs = self.sources_out(alloc, point, before)?;
-        let effects = effects_at(alloc, self.app, point, outs.as_slice())?;
+        let app = self.app;
+        let mut effects = self.waits.effects_at(alloc, app, point, outs.as_slice())?;
+        self.push_effects(alloc, before, &effects, groups)?;
+        self.waits.keep(alloc, &mut effects)?;
+        Ok(())
+    }
+
+    // adds the exits of effects, of those that differ in one condition alone together
+    fn push_effects(
+        &mut self,
+        alloc: Global,
+        before: &NumberedEntry,
+        effects: &Effects,
+        groups: &mut Vec<ExitGroup>,
+    ) -> Result<(), Memory>
+        requires effects { MayTakeAll self.old.app.now effects.now self.old.pool before.now }
+        requires known { AreKnownGroups self.old.pool groups.old.items }
+        ensures grown { IsGrown self.old self.new }
+        ensures added { OnOk result (AddsEffects self.old.app.now (plain_entry self.old.pool before.now) (all_cases effects.now) self.old.pool groups.old.items self.new.pool groups.new.items) }
+    {
         for effect in effects.cases.as_slice() {
             self.push_effect(alloc, before, effect, groups)?;
         }

@@ -2,25 +2,29 @@
 ghost use Rattle.std.specs.Prelude.{◌≡◌};
 ghost use Rattle.abstract_state.specs.Domains.{domains_of};
 ghost use Rattle.numbered_sets.specs.Pools.{pool_domains};
-ghost use Rattle.point_exits.specs.{Levels.{AreLevels}, OneProof.{SameDomains-prop, AreLevels-prop}};
+ghost use Rattle.flow_effects.specs.KnownWaits.{AreKnownWaits};
+ghost use Rattle.point_exits.specs.{Levels.{AreLevels}, OneProof.{SameDomains-prop, AreLevels-prop, AreKnownWaits-prop}};
 
 use crate::arrivals::Arrivals;
 use crate::levels::{Levels, no_insides};
 use crate::task_levels::TaskLevels;
+use flow_effects::KnownWaits;
 use numbered_sets::Pool;
 use osek_standard::App;
 use osek_values::{Memory, Seq};
 use std::alloc::Global;
 
 /// The values that the components of an application were seen with, by number, and their levels. Both grow as values come in,
-/// also where memory is wanted.
+/// also where memory is wanted. Kept with them are the conditions of WaitEvents.
 #[derive(Drop)]
 pub struct Numbering<'a> {
     pub app: &'a App,
     pub pool: Pool,
     pub levels: Levels,
+    pub waits: KnownWaits,
     pub ghost domains: { pool_domains pool ≡ domains_of app.now } by { SameDomains-prop (pool_domains pool) (domains_of app.now) },
     pub ghost known: { AreLevels app.now pool levels } by { AreLevels-prop app.now pool levels },
+    pub ghost conditions: { AreKnownWaits app.now waits.known } by { AreKnownWaits-prop app.now waits.known },
 }
 
 impl<'a> Numbering<'a> {
@@ -46,7 +50,13 @@ impl<'a> Numbering<'a> {
             insides,
             arrivals: Arrivals { known },
         };
-        Ok(Numbering { app, pool, levels })
+        let waits = KnownWaits::new(alloc);
+        Ok(Numbering {
+            app,
+            pool,
+            levels,
+            waits,
+        })
     }
 
     /// Judges the values that came in since the last time. Of a task that names an INTERNAL resource the same values inside

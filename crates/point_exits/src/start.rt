@@ -3,7 +3,7 @@ ghost use Rattle.std.specs.Prelude.{◌≡◌, ◌<◌, length, IfOk};
 ghost use Rattle.osek_standard.specs.{Points.{point_of, point_of as point_of_state}, Kernel.{start as start_of}, Well.{Well}};
 ghost use Rattle.numbered_sets.specs.PlainTables.{row_at};
 ghost use Rattle.point_exits.specs.{Starts.{entry_of, IsStartRow, HasPart, single as single_set, entry_of as entry_of_state}, Rows.{IsProperRow}};
-ghost use Rattle.abstract_state.specs.Components.{value_in as value_of_activity, source_value as value_of_source, part_of};
+ghost use Rattle.abstract_state.specs.Components.{source_value as value_of_source, part_of};
 ghost use Rattle.abstract_state.specs.Regular.{IsRegular};
 
 use abstract_state::{
@@ -70,7 +70,16 @@ fn part(state: &State, component: Component) -> PartValue
     ensures { result ≡ part_of state.now component }
 {
     match component {
-        Component::Task(task) => PartValue::OfTask(value_in(&state.task(task).activity)),
+        Component::Task(task) => match &state.task(task).activity {
+            Activity::Suspended => PartValue::OfTask(Val::Suspended),
+            Activity::Live(standing) => PartValue::OfTask(Val::Live(LiveVal {
+                block: standing.at.block,
+                further: standing.further,
+                inside: standing.inside,
+                held: standing.held.copy(),
+            })),
+            Activity::Waiting(block) => PartValue::OfTask(Val::Waiting(*block)),
+        },
         Component::Event { task, bit } => { PartValue::OfEvent(state.task(task).events.has(bit.0)) }
         Component::Alarm(alarm) => PartValue::OfAlarm(matches!(
             state.alarm(alarm),
@@ -79,21 +88,6 @@ fn part(state: &State, component: Component) -> PartValue
         Component::Source(source) => PartValue::OfSource(source_value(
             state.sources.at(source.index()),
         )),
-    }
-}
-
-fn value_in(activity: &Activity) -> Val
-    ensures { result ≡ value_of_activity activity.now }
-{
-    match activity {
-        Activity::Suspended => Val::Suspended,
-        Activity::Live(standing) => Val::Live(LiveVal {
-            block: standing.at.block,
-            further: standing.further,
-            inside: standing.inside,
-            held: standing.held.copy(),
-        }),
-        Activity::Waiting(block) => Val::Waiting(*block),
     }
 }
 

@@ -11,6 +11,7 @@ pub invariant_of-self : goal.invariant_of-self
 invariant_of-self c = record {
   domains = c.applied.ensures.pool.domains ∙ c.args.self.now.domains;
   known = levels_longer c.args.self.now.app.now c.args.self.now.pool c.applied.new.pool c.args.self.now.levels c.applied.ensures.pool c.args.self.now.known;
+  conditions = c.args.self.now.conditions;
 }
 
 pub returns-in_default-clause-grown : goal.returns-in_default-clause-grown

@@ -19,4 +19,5 @@ invariant_of-result c =
       domains = c.requires;
       known = all_levels app pool (record { tasks = c.loop-task.tasks; insides = insides; arrivals = record { known = c.new-known.result } }) c.loop-task.task c.loop-task.invariant
           (omega (arith, c.loop-task-test.false, c.loop-task.auto.task-end, c.len-task-end.ensures)) (insides_begun app pool insides c.in_ok-insides.ensures) c.new-known.ensures;
+      conditions = c.new-waits.ensures app;
     }

@@ -39,6 +39,7 @@ pub invariant_of-self : goal.invariant_of-self
 invariant_of-self c = record {
   domains = subst (λ (q : List Values). pool_domains q ≡ domains_of c.args.self.now.app.now) (sym c.passing_ends.ensures.same) c.args.self.now.domains;
   known = subst (λ (q : List Values). AreLevels c.args.self.now.app.now q c.args.self.now.levels) (sym c.passing_ends.ensures.same) c.args.self.now.known;
+  conditions = c.args.self.now.conditions;
 }
 
 pub after-requires : goal.after-requires

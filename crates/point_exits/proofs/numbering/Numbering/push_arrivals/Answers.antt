@@ -18,6 +18,7 @@ pub invariant_of-self : goal.invariant_of-self
 invariant_of-self c = record {
   domains = c.args.self.now.domains;
   known = levels_keeping c.args.self.now.app.now c.args.self.now.pool c.args.self.now.pool c.args.self.now.levels c.find.new.self (longer_itself c.args.self.now.pool) c.args.self.now.known c.find.ensures.known;
+  conditions = c.args.self.now.conditions;
 }
 
 pub push_begun-requires-clause-rules : goal.push_begun-requires-clause-rules
@@ -32,10 +33,12 @@ pub invariant_of-self-in-Some : goal.invariant_of-self-in-Some
 invariant_of-self-in-Some c = record {
   domains = c.push_begun.ensures.pool.domains ∙ c.args.self.now.domains;
   known = levels_keeping c.args.self.now.app.now c.args.self.now.pool c.push_begun.new.pool c.args.self.now.levels c.find.new.self c.push_begun.ensures.pool c.args.self.now.known c.find.ensures.known;
+  conditions = c.args.self.now.conditions;
 }
 
 pub invariant_of-self-in-None : goal.invariant_of-self-in-None
 invariant_of-self-in-None c = record {
   domains = c.push_begun-in-None.ensures.pool.domains ∙ c.args.self.now.domains;
   known = levels_keeping c.args.self.now.app.now c.args.self.now.pool c.push_begun-in-None.new.pool c.args.self.now.levels c.find.new.self c.push_begun-in-None.ensures.pool c.args.self.now.known c.find.ensures.known;
+  conditions = c.args.self.now.conditions;
 }

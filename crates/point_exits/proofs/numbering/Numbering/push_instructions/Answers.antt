@@ -1,126 +1,59 @@
-use Rattle.std.proofs.Common.{◌≡◌, ◌∷◌, [], Bool, List, ◌∙◌, sym, ap, subst}
-use Rattle.std.specs.{Prelude.{Contains, IfSome}, declared.option.Option.{Option}}
-use Rattle.std.proofs.lemmas.{List.{take_all}, Result.{on_ok_weaker}}
+use Rattle.std.proofs.Common.{◌≡◌, ◌∙◌, Bool, List, sym, subst}
 use Rattle.osek_standard.specs.declared.app.App.{App}
-use Rattle.abstract_state.specs.{declared.table.PlainEntry.{PlainEntry}, Domains.{domains, domains_of}}
-use Rattle.flow_model.specs.{declared.case.EffectCase.{EffectCase}, Effects.{IsKnownStay}}
+use Rattle.abstract_state.specs.Domains.{domains, domains_of}
 use Rattle.numbered_sets.specs.Views.{plain_entry}
-use Rattle.numbered_sets.proofs.ViewLaws.{same_view, same_domains, still_known}
-use Rattle.flow_effects.specs.{declared.effects.Alternatives.{Alternatives}, Outs.{AreOutIn}, Alternatives.{alternative_cases, with_alternatives, all_cases, AreApart}}
-use Rattle.flow_exits.specs.Leaving.{effect_rule}
-use Rattle.point_exits.specs.{Applying.{KeepsDomains}, Leaving.{AddsEffects}, Alternatives.{HasOwnValues}}
-use Rattle.point_exits.proofs.{AddingEffects.{more_effects, effects_on}, EffectDomains.{effect_keeps_domains}, AlternativeCases.{case_listed, alternative_listed, own_values}, GrownNumberings.{grown_onward}}
+use Rattle.numbered_sets.proofs.ViewLaws.{same_domains}
+use Rattle.flow_effects.specs.{Outs.{AreOutIn}, Alternatives.{all_cases}, KnownWaits.{AreOfTheirWait}}
+use Rattle.flow_effects.proofs.KeptConditions.{have_case}
+use Rattle.point_exits.proofs.{EffectDomains.{effect_keeps_domains}, AlternativeCases.{own_values}}
 use Rattle.point_exits.proofs.numbering.Numbering.push_instructions.Goals as goal
 
-pub push_effect-requires-clause-effect : goal.push_effect-requires-clause-effect
-push_effect-requires-clause-effect c =
-    let pool = c.args.self.now.pool in
-    let entry = c.args.before.now in
-    let x = c.effect-item.result in
-    let alike : domains (plain_entry pool entry) ≡ domains_of c.args.self.now.app.now = same_domains pool 0 entry.sets ∙ (c.requires.at.numbers.domains ∙ c.args.self.now.domains) in
-    let listed = subst (λ (xs : List EffectCase). Contains xs x) c.as_slice-effect-items.ensures (c.loop-effect.effect-index, c.loop-effect-test.true, sym c.effect-item.is) in
-    let one = case_listed c.in_ok-effects.effects.cases c.in_ok-effects.effects.alternatives x listed in
-    record {
-      applies = record {
-        numbers = still_known pool c.loop-effect.self.pool entry c.loop-effect.invariant.added.longer c.requires.at.numbers;
-        kept = subst (KeepsDomains (effect_rule x)) (sym (same_view pool c.loop-effect.self.pool entry c.loop-effect.invariant.added.longer c.requires.at.numbers))
-            (effect_keeps_domains c.args.self.now.app.now c.args.point (plain_entry pool entry) (all_cases c.in_ok-effects.effects) x alike one (c.in_ok-effects.ensures.exact (plain_entry pool entry) alike c.requires.at.allowed));
-      };
-      stay = subst (λ (app : App). IsKnownStay app x.leaving.stay) (sym c.loop-effect.invariant.grown.app) (c.in_ok-effects.ensures.stays x one);
-    }
+pub effects_at-requires-clause-known : goal.effects_at-requires-clause-known
+effects_at-requires-clause-known c = c.args.self.now.conditions
 
-pub loop-effect-preserved : goal.loop-effect-preserved
-loop-effect-preserved c =
-    let app = c.args.self.now.app.now in
-    let pool = c.args.self.now.pool in
-    let mid = c.loop-effect.self.pool in
-    let entry = c.args.before.now in
-    let inv = c.loop-effect.invariant in
-    let x = c.effect-item.result in
-    record {
-      added = effects_on app (plain_entry pool entry) c.as_slice-effect-items.result.now c.loop-effect.effect-index x pool mid c.push_effect.new.self.pool c.args.groups.now.items c.loop-effect.groups.items c.push_effect.new.groups.items
-          c.loop-effect-test.true (sym c.effect-item.is) inv.added
-          (subst (λ (e : PlainEntry). AddsEffects app e (x ∷ []) mid c.loop-effect.groups.items c.push_effect.new.self.pool c.push_effect.new.groups.items) (same_view pool mid entry inv.added.longer c.requires.at.numbers)
-          (subst (λ (own : App). AddsEffects own (plain_entry mid entry) (x ∷ []) mid c.loop-effect.groups.items c.push_effect.new.self.pool c.push_effect.new.groups.items) inv.grown.app c.in_ok-push_effect.ensures.added));
-      grown = grown_onward c.args.self.now c.loop-effect.self c.push_effect.new.self inv.grown c.push_effect.ensures.grown;
-    }
+pub invariant_of-self : goal.invariant_of-self
+invariant_of-self c = record { domains = c.args.self.now.domains; known = c.args.self.now.known; conditions = c.effects_at.ensures.known }
 
-pub push_alternatives-requires-clause-cases : goal.push_alternatives-requires-clause-cases
-push_alternatives-requires-clause-cases c =
+pub push_effects-requires-clause-effects : goal.push_effects-requires-clause-effects
+push_effects-requires-clause-effects c =
     let app = c.args.self.now.app.now in
-    let pool = c.args.self.now.pool in
-    let mid = c.loop-effect.self.pool in
+    let p = c.args.point in
     let entry = c.args.before.now in
-    let longer = c.loop-effect.invariant.added.longer in
-    let numbers = c.requires.at.numbers in
+    let plain = plain_entry c.args.self.now.pool entry in
     let effects = c.in_ok-effects.effects in
-    let alike : domains (plain_entry pool entry) ≡ domains_of app = same_domains pool 0 entry.sets ∙ (numbers.domains ∙ c.args.self.now.domains) in
-    let same = sym (same_view pool mid entry longer numbers) in
+    let at = c.requires.at in
+    let alike : domains plain ≡ domains_of app = same_domains c.args.self.now.pool 0 entry.sets ∙ (at.numbers.domains ∙ c.args.self.now.domains) in
     record {
-      numbers = still_known pool mid entry longer numbers;
-      own = subst HasOwnValues same (own_values app c.args.point (plain_entry pool entry) alike c.requires.at.allowed);
-      apart = subst (λ (own : App). AreApart own c.in-Some.alternatives) (sym c.loop-effect.invariant.grown.app)
-          (subst (λ (o : Option Alternatives). IfSome o (AreApart app)) c.in-Some.is c.in_ok-effects.ensures.apart);
-      kept = λ x m.
-          (let listed = alternative_listed effects.cases effects.alternatives c.in-Some.alternatives x c.in-Some.is m in
-          subst (KeepsDomains (effect_rule x)) same
-          (effect_keeps_domains app c.args.point (plain_entry pool entry) (all_cases effects) x alike listed (c.in_ok-effects.ensures.exact (plain_entry pool entry) alike c.requires.at.allowed)));
-    }
-
-pub push_alternatives-requires-clause-known : goal.push_alternatives-requires-clause-known
-push_alternatives-requires-clause-known c = c.loop-effect.invariant.added.known
-
-pub returns-in-None-clause-added : goal.returns-in-None-clause-added
-returns-in-None-clause-added c =
-    let app = c.args.self.now.app.now in
-    let pool = c.args.self.now.pool in
-    let plain = plain_entry pool c.args.before.now in
-    let effects = c.in_ok-effects.effects in
-    let alike : domains plain ≡ domains_of app = same_domains pool 0 c.args.before.now.sets ∙ (c.requires.at.numbers.domains ∙ c.args.self.now.domains) in
-    let whole = take_all c.loop-effect.effect-index c.as_slice-effect-items.result.now c.loop-effect-test.false ∙ c.as_slice-effect-items.ensures ∙ sym (ap (with_alternatives effects.cases) c.in-None.is) in
-    record {
-      effects = all_cases effects;
+      numbers = at.numbers;
+      own = own_values app p plain alike at.allowed;
       stays = c.in_ok-effects.ensures.stays;
-      covering = c.in_ok-effects.ensures.covering plain alike (subst (λ (xs : List Bool). AreOutIn app xs plain) (sym c.as_slice.ensures) c.in_ok-outs.ensures);
-      exact = c.in_ok-effects.ensures.exact plain alike;
-      added = subst (λ (xs : List EffectCase). AddsEffects app plain xs pool c.args.groups.now.items c.loop-effect.self.pool c.loop-effect.groups.items) whole c.loop-effect.invariant.added;
+      apart = c.in_ok-effects.ensures.apart;
+      kept = λ x listed. effect_keeps_domains app p plain (all_cases effects) x alike listed (c.in_ok-effects.ensures.exact plain alike at.allowed);
+    }
+
+pub keep-requires : goal.keep-requires
+keep-requires c = have_case c.args.self.now.app.now c.in_ok-effects.effects c.in_ok-effects.ensures.wait
+
+pub invariant_of-self-2 : goal.invariant_of-self-2
+invariant_of-self-2 c =
+    let after = c.push_effects.new.self in
+    record {
+      domains = after.domains;
+      known = after.known;
+      conditions = c.keep.ensures after.app.now after.conditions (subst (λ (app : App). AreOfTheirWait app c.in_ok-effects.effects) (sym c.push_effects.ensures.grown.app) c.in_ok-effects.ensures.wait);
     }
 
 pub returns-clause-added : goal.returns-clause-added
 returns-clause-added c =
     let app = c.args.self.now.app.now in
-    let pool = c.args.self.now.pool in
-    let mid = c.loop-effect.self.pool in
-    let after = c.push_alternatives.new.self.pool in
     let entry = c.args.before.now in
-    let plain = plain_entry pool entry in
+    let plain = plain_entry c.args.self.now.pool entry in
     let effects = c.in_ok-effects.effects in
-    let first = c.args.groups.now.items in
-    let then = c.loop-effect.groups.items in
-    let last = c.push_alternatives.new.groups.items in
-    let alike : domains plain ≡ domains_of app = same_domains pool 0 entry.sets ∙ (c.requires.at.numbers.domains ∙ c.args.self.now.domains) in
-    let others = alternative_cases c.in-Some.alternatives in
-    let some : AddsEffects app plain effects.cases pool first mid then =
-    subst (λ (xs : List EffectCase). AddsEffects app plain xs pool first mid then)
-    (take_all c.loop-effect.effect-index c.as_slice-effect-items.result.now c.loop-effect-test.false ∙ c.as_slice-effect-items.ensures) c.loop-effect.invariant.added in
-    on_ok_weaker c.push_alternatives.result
-    (λ added. record {
+    let alike : domains plain ≡ domains_of app = same_domains c.args.self.now.pool 0 entry.sets ∙ (c.requires.at.numbers.domains ∙ c.args.self.now.domains) in
+    record {
       effects = all_cases effects;
       stays = c.in_ok-effects.ensures.stays;
       covering = c.in_ok-effects.ensures.covering plain alike (subst (λ (xs : List Bool). AreOutIn app xs plain) (sym c.as_slice.ensures) c.in_ok-outs.ensures);
       exact = c.in_ok-effects.ensures.exact plain alike;
-      added =
-          subst (λ (xs : List EffectCase). AddsEffects app plain xs pool first after last) (sym (ap (with_alternatives effects.cases) c.in-Some.is))
-          (more_effects app plain effects.cases others pool mid after first then last some
-          (subst (λ (e : PlainEntry). AddsEffects app e others mid then after last) (same_view pool mid entry c.loop-effect.invariant.added.longer c.requires.at.numbers)
-          (subst (λ (own : App). AddsEffects own (plain_entry mid entry) others mid then after last) c.loop-effect.invariant.grown.app added)));
-    }) c.push_alternatives.ensures.added
-
-pub returns-clause-grown : goal.returns-clause-grown
-returns-clause-grown c = grown_onward c.args.self.now c.loop-effect.self c.push_alternatives.new.self c.loop-effect.invariant.grown c.push_alternatives.ensures.grown
-
-pub returns-in_err-push_effect-clause-grown : goal.returns-in_err-push_effect-clause-grown
-returns-in_err-push_effect-clause-grown c = grown_onward c.args.self.now c.loop-effect.self c.push_effect.new.self c.loop-effect.invariant.grown c.push_effect.ensures.grown
-
-pub returns-in-None-clause-grown : goal.returns-in-None-clause-grown
-returns-in-None-clause-grown c = c.loop-effect.invariant.grown
+      added = c.in_ok-push_effects.ensures.added;
+    }

@@ -9,7 +9,7 @@ use Rattle.flow_model.specs.Effects.{AreAllAllowed, CoverEffects, AreExactEffect
 use Rattle.flow_effects.specs.declared.{effects.Effects.{Effects}, waiting.Wait.{Wait}}
 use Rattle.flow_effects.specs.{Outs.{AreOutIn}, Alternatives.{all_cases, AreApart, IsWaitAt, wait_effects}}
 use Rattle.flow_effects.proofs.WaitEffects.{wait_covered, wait_apart}
-use Rattle.flow_effects.proofs.effects.effects_at.Goals as goal
+use Rattle.flow_effects.proofs.known_waits.KnownWaits.effects_at.Goals as goal
 
 module _ (app : App) (outs : List Bool) (p : Point) (w : Wait) (is : IsWaitAt app p w) (few : HasMasks app) (result : Result Effects Memory) (same : IfOk result (λ x. x ≡ wait_effects app w)) where
   cases : IfOk result (λ x. AreCasesOf app p (all_cases x))
@@ -30,19 +30,19 @@ module _ (app : App) (outs : List Bool) (p : Point) (w : Wait) (is : IsWaitAt ap
 pub returns-in-Some-clause-covering : goal.returns-in-Some-clause-covering
 returns-in-Some-clause-covering c =
     let is = subst (λ (o : Option Wait). IfSome o (IsWaitAt c.args.app.now c.args.point)) c.in-Some.is c.at.ensures in
-    covering c.args.app.now c.args.outs.now c.args.point c.in-Some.wait is c.masks_are_few.ensures c.effects.result c.effects.ensures
+    covering c.args.app.now c.args.outs.now c.args.point c.in-Some.wait is c.masks_are_few.ensures c.of_wait.result c.of_wait.ensures.effects
 
 pub returns-in-Some-clause-exact : goal.returns-in-Some-clause-exact
 returns-in-Some-clause-exact c =
     let is = subst (λ (o : Option Wait). IfSome o (IsWaitAt c.args.app.now c.args.point)) c.in-Some.is c.at.ensures in
-    exact c.args.app.now c.args.outs.now c.args.point c.in-Some.wait is c.masks_are_few.ensures c.effects.result c.effects.ensures
+    exact c.args.app.now c.args.outs.now c.args.point c.in-Some.wait is c.masks_are_few.ensures c.of_wait.result c.of_wait.ensures.effects
 
 pub returns-in-Some-clause-stays : goal.returns-in-Some-clause-stays
 returns-in-Some-clause-stays c =
     let is = subst (λ (o : Option Wait). IfSome o (IsWaitAt c.args.app.now c.args.point)) c.in-Some.is c.at.ensures in
-    stays c.args.app.now c.args.outs.now c.args.point c.in-Some.wait is c.masks_are_few.ensures c.effects.result c.effects.ensures
+    stays c.args.app.now c.args.outs.now c.args.point c.in-Some.wait is c.masks_are_few.ensures c.of_wait.result c.of_wait.ensures.effects
 
 pub returns-in-Some-clause-apart : goal.returns-in-Some-clause-apart
 returns-in-Some-clause-apart c =
     let is = subst (λ (o : Option Wait). IfSome o (IsWaitAt c.args.app.now c.args.point)) c.in-Some.is c.at.ensures in
-    apart c.args.app.now c.args.outs.now c.args.point c.in-Some.wait is c.masks_are_few.ensures c.effects.result c.effects.ensures
+    apart c.args.app.now c.args.outs.now c.args.point c.in-Some.wait is c.masks_are_few.ensures c.of_wait.result c.of_wait.ensures.effects

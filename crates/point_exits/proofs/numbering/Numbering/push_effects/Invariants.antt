@@ -1,7 +1,7 @@
 use Rattle.std.proofs.Common.{take}
 use Rattle.numbered_sets.specs.Views.{plain_entry}
 use Rattle.point_exits.specs.{Growing.{IsGrown}, Leaving.{AddsEffects}}
-use Rattle.point_exits.proofs.numbering.Numbering.push_instructions.Given as goal
+use Rattle.point_exits.proofs.numbering.Numbering.push_effects.Given as goal
 
 abbrev pub invariant-loop-effect : goal.invariant-loop-effect
 invariant-loop-effect l = record {
