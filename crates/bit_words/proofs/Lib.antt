@@ -7,3 +7,4 @@ pub mod FirstWords
 pub mod FurtherLaws
 pub mod NextNumbers
 pub mod SkippedWords
+pub mod CursorLaws

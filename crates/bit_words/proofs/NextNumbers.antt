@@ -9,7 +9,7 @@ use Rattle.osek_values.specs.Bits.{has_bit}
 bit_up : (word from i : ℕ) → has_bit (word / 2 ^ from) i ≡ has_bit word (from + i)
 bit_up word from i = ap (λ m. m % 2 == 1) (shr-shr word from i)
 
-bit_from : (word from k : ℕ) → from ≤ k → has_bit word k ≡ has_bit (word / 2 ^ from) (k - from)
+pub bit_from : (word from k : ℕ) → from ≤ k → has_bit word k ≡ has_bit (word / 2 ^ from) (k - from)
 bit_from word from k le = (let at : k ≡ from + (k - from) = omega (arith, le) in ap (has_bit word) at ∙ sym (bit_up word from (k - from)))
 
 pub none_up : (word from : ℕ) → word / 2 ^ from ≡ 0 → (k : ℕ) → from ≤ k → has_bit word k ≡ false

@@ -2,9 +2,11 @@
 //! each of several components.
 #![tactic(auto)]
 
+pub mod bit_cursor;
 pub mod further;
 pub mod shared_words;
 pub mod split_words;
 pub mod words;
 
+pub use bit_cursor::BitCursor;
 pub use shared_words::SharedWords;

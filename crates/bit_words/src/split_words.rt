@@ -1,8 +1,9 @@
 //! The words of a set, of which the first two stand apart.
-ghost use Rattle.std.specs.Prelude.{ℕ, List, false, IsTrue, ◌≡◌, ◌∷◌, ◌<◌, ◌≤◌, ◌==◌, ◌^◌, count_ones};
-ghost use Rattle.bit_words.specs.Words.{bits_of_words};
+ghost use Rattle.std.specs.Prelude.{ℕ, List, false, IsTrue, ◌≡◌, ◌∷◌, ◌<◌, ◌≤◌, ◌+◌, ◌%◌, ◌*◌, ◌==◌, ◌^◌, count_ones, slice_index_or};
+ghost use Rattle.bit_words.specs.{Words.{bits_of_words}, Cursors.{IsBefore, IsAtWord}};
 ghost use Rattle.osek_values.specs.Bits.{has_bit as has_bit_of};
 
+use crate::bit_cursor::BitCursor;
 use crate::words;
 
 /// Whether a number's bit is set.
@@ -59,6 +60,71 @@ fn next_of_two(low: u64, high: u64, from: usize) -> usize
     }
     let next = words::next_bit(high, 0);
     64 + next
+}
+
+/// A cursor before the numbers from one on.
+pub fn cursor(low: u64, high: u64, more: &[u64], from: usize) -> BitCursor
+    ensures { IsBefore (bits_of_words (low ∷ high ∷ more.now)) from result }
+{
+    words::are_two_words(low, high);
+    words::are_words(more);
+    let bit = from % 64;
+    let word = word_at(low, high, more, from / 64);
+    BitCursor {
+        base: from - bit,
+        rest: word >> bit << bit,
+    }
+}
+
+// the word at a place; past the end it is 0
+fn word_at(low: u64, high: u64, more: &[u64], place: usize) -> u64
+    ensures { result ≡ slice_index_or (low ∷ high ∷ more.now) place 0 }
+{
+    if place == 0 {
+        return low;
+    }
+    if place == 1 {
+        return high;
+    }
+    words::word_at(more, place - 2)
+}
+
+/// A cursor before the numbers of the next word that has some, from a word on that isn't the first. Where none is below a bound
+/// it has no bit.
+#[inline(never)]
+pub fn next_word(high: u64, more: &[u64], from: usize, below: usize) -> BitCursor
+    requires { 0 < from }
+    ensures word { result.base % 64 ≡ 0 }
+    ensures some { 0 < result.rest → (low : ℕ) → low < 2 ^ 64 → IsAtWord (bits_of_words (low ∷ high ∷ more.now)) (64 * from) result }
+    ensures none { result.rest ≡ 0 → (low k : ℕ) → low < 2 ^ 64 → 64 * from ≤ k → k < below → has_bit_of (bits_of_words (low ∷ high ∷ more.now)) k ≡ false }
+{
+    if from > 1 {
+        return further_word(more, from - 2, below);
+    }
+    if high != 0 {
+        return BitCursor {
+            base: 64,
+            rest: high,
+        };
+    }
+    further_word(more, 0, below)
+}
+
+// the same of the words past the first two, from one of these on
+fn further_word(more: &[u64], from: usize, below: usize) -> BitCursor
+    ensures word { result.base % 64 ≡ 0 }
+    ensures some { 0 < result.rest → (low high : ℕ) → low < 2 ^ 64 → high < 2 ^ 64 → IsAtWord (bits_of_words (low ∷ high ∷ more.now)) (128 + 64 * from) result }
+    ensures none { result.rest ≡ 0 → (low high k : ℕ) → low < 2 ^ 64 → high < 2 ^ 64 → 128 + 64 * from ≤ k → k < below →
+        has_bit_of (bits_of_words (low ∷ high ∷ more.now)) k ≡ false }
+{
+    if below <= 128 {
+        return BitCursor { base: 0, rest: 0 };
+    }
+    let further = words::next_word(more, from, below - 128);
+    BitCursor {
+        base: 128 + further.base,
+        rest: further.rest,
+    }
 }
 
 /// Whether no bit is set.

@@ -1,9 +1,10 @@
 //! Words of 64 bits, with a bit for each number.
-ghost use Rattle.std.specs.Prelude.{ℕ, false, IsTrue, ◌≡◌, ◌<◌, ◌≤◌, ◌+◌, ◌*◌, ◌/◌, ◌^◌, ◌==◌, not, bit_and, bit_or, bit_xor, count_ones, length, replicate, slice_index_or, slice_set, IfOk, OnOk, OnErr};
+ghost use Rattle.std.specs.Prelude.{ℕ, false, IsTrue, ◌≡◌, ◌<◌, ◌≤◌, ◌+◌, ◌*◌, ◌/◌, ◌%◌, ◌^◌, ◌==◌, not, bit_and, bit_or, bit_xor, count_ones, length, replicate, slice_index_or, slice_set, IfOk, OnOk, OnErr};
 ghost use Rattle.std.specs.Bool.{OnTrue};
-ghost use Rattle.bit_words.specs.Words.{AreWords, bits_of_words};
+ghost use Rattle.bit_words.specs.{Words.{AreWords, bits_of_words}, Cursors.{IsAtWord}};
 ghost use Rattle.osek_values.specs.Bits.{has_bit as has_bit_of};
 
+use crate::bit_cursor::BitCursor;
 use osek_values::Memory;
 use std::alloc::Global;
 
@@ -173,6 +174,26 @@ fn next_in_words(words: &[u64], from: usize, below: usize) -> usize
         }
     }
     below
+}
+
+/// A cursor before the numbers of the first word from a place on that has some. Where none is below a bound it has no bit.
+pub fn next_word(words: &[u64], from: usize, below: usize) -> BitCursor
+    ensures word { result.base % 64 ≡ 0 }
+    ensures bound { result.base ≤ below }
+    ensures some { 0 < result.rest → IsAtWord (bits_of_words words.now) (64 * from) result }
+    ensures none { result.rest ≡ 0 → (k : ℕ) → 64 * from ≤ k → k < below → has_bit_of (bits_of_words words.now) k ≡ false }
+{
+    are_words(words);
+    let end = words.len().min(below / 64 + 1);
+    for place in from..end {
+        if words[place] != 0 {
+            return BitCursor {
+                base: 64 * place,
+                rest: words[place],
+            };
+        }
+    }
+    BitCursor { base: 0, rest: 0 }
 }
 
 fn at_most(number: usize, bound: usize) -> usize
