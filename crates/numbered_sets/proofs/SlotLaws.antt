@@ -144,6 +144,17 @@ module _ (d : Domain) (first : BlockNo) (count width slot : ℕ) (loads : List L
         moved_in_row block (p.row * width + p.offset) (omega (arith, block_of_place)) (record { low = omega (arith, later); high = omega (arith, at.0, later); is = omega (arith, product, later) }),
       )
 
+  moved_beside : (t : ℕ) (q : SlotPlace) → IsTaskSlot first.0 count loads t → IsPlaceIn (Some (first, count)) t q → q.row ≡ p.row → (b : BlockNo) × (value_in d loads t ≡ updated (Block b) (value_in d loads slot))
+  moved_beside t q its_too there same =
+      let before : t - 1 ≡ q.row * count + q.offset = omega (arith, there.1) in
+      let rest : (t - 1) % count ≡ q.offset = ap (λ (m : ℕ). m % count) before ∙ mod-mul-add q.row count q.offset there.0 in
+      let small = block_small first.0 count loads t (omega (arith, there.1)) its_too in
+      let product : q.row * count ≡ p.row * count = ap (λ (r : ℕ). r * count) same in
+      let block = block_no (first.0 + q.offset) in (
+        block,
+        moved_in_row block t (omega (arith, small, rest)) (record { low = omega arith; high = omega (arith, there.0); is = omega (arith, there.1, product) }),
+      )
+
 -- the slot in a block's column and the row of a Live one
 pub moved_in_column : (d : Domain) (width slot : ℕ) (loads : List Load) (p : SlotPlace) (c : BlockColumn) → AreDistinct loads → IsSlot d loads slot → width ≡ slot_width d → IsSlotPlace d slot p → (p.row ≡ 0 → ⊥) → IsBlockColumn d c
     → value_in d loads ((c.row + p.row) * width + c.column) ≡ updated (Block c.block) (value_in d loads slot)
@@ -163,6 +174,16 @@ moved_before domain.Event width slot loads p distinct known wide at live later =
 moved_before domain.Alarm width slot loads p distinct known wide at live later = absurd at
 moved_before (domain.Source first count takable) width slot loads p distinct known wide at live later =
     moved_to_before (domain.Source first count takable) first count width slot loads p distinct known wide refl (task_slot first.0 count loads slot known) at live later
+
+-- another slot in the row of a Live one
+pub moved_beside_it : (d : Domain) (width slot t : ℕ) (loads : List Load) (p q : SlotPlace) → AreDistinct loads → IsSlot d loads slot → IsSlot d loads t → width ≡ slot_width d → IsSlotPlace d slot p → IsSlotPlace d t q → (p.row ≡ 0 → ⊥) → q.row ≡ p.row
+    → (b : BlockNo) × (value_in d loads t ≡ updated (Block b) (value_in d loads slot))
+moved_beside_it (domain.Task first count activation internal takable) width slot t loads p q distinct known known_too wide at there live same =
+    moved_beside (domain.Task first count activation internal takable) first count width slot loads p distinct known wide refl known at live t q known_too there same
+moved_beside_it domain.Event width slot t loads p q distinct known known_too wide at there live same = absurd at
+moved_beside_it domain.Alarm width slot t loads p q distinct known known_too wide at there live same = absurd at
+moved_beside_it (domain.Source first count takable) width slot t loads p q distinct known known_too wide at there live same =
+    moved_beside (domain.Source first count takable) first count width slot loads p distinct known wide refl (task_slot first.0 count loads slot known) at live t q (task_slot first.0 count loads t known_too) there same
 
 -- ---- slots as more loads come in
 

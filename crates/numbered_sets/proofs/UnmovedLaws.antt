@@ -1,5 +1,5 @@
 -- Tests that pass alike wherever a task or a routine stands.
-use Rattle.std.proofs.{Common.{◌≡◌, ℕ, Bool, true, List, get_or, refl, sym, ap, ◌∙◌}, lemmas.List.{get_or_default}}
+use Rattle.std.proofs.{Common.{◌≡◌, ◌<◌, ℕ, Bool, true, List, length, get_or, refl, sym, ap, ◌∙◌}, lemmas.List.{get_or_default}}
 use Rattle.osek_values.specs.declared.numbers.{BlockNo.{BlockNo}, ResNo.{ResNo}}
 use Rattle.osek_standard.specs.{TaskStates.{holds}, Services.{is_on_top}}
 use Rattle.abstract_state.specs.declared.value.{LiveVal.{LiveVal}, Val.{Val, TheVariants.{Suspended, Live, Waiting}}, PartValue.{PartValue, TheVariants.{OfTask, OfEvent, OfAlarm, OfSource}}}
@@ -9,7 +9,7 @@ use Rattle.flow_model.specs.{declared.{test.Test.{Test}, change.Update.TheVarian
 use Rattle.flow_model.specs.declared.test.Test.TheVariants as test
 use Rattle.flow_model.specs.Values.{is_suspended_value, further_of, has_room, is_full_value, waits_at}
 use Rattle.std.specs.Prelude.{not, ◌==◌}
-use Rattle.numbered_sets.specs.{Passing.{reads_no_block, IsJudged}, Pools.{IsNumberOf}, declared.passing.Judged.{Judged}}
+use Rattle.numbered_sets.specs.{Passing.{reads_no_block}, Pools.{IsNumberOf, IsBeside}}
 
 by_load : (f : Val → Bool) (b : BlockNo) → ((x : LiveVal) → f (Live (live_val b x.further x.inside x.held)) ≡ f (Live x)) → (v : PartValue) → of_task f (updated (Block b) v) ≡ of_task f v
 by_load f b h (OfTask Suspended) = refl
@@ -46,11 +46,10 @@ unmoved test.SomeFurther b v e = by_load (λ x. not (further_of x == 0)) b (λ x
 unmoved (test.WaitsAt r) b v e = by_load (waits_at r) b (λ x. refl) v
 unmoved (test.WaitsNotAt r) b v e = by_load (λ x. not (waits_at r x)) b (λ x. refl) v
 
--- a value that was judged tells it of one at another block
-pub judged_beside : (vs : List PartValue) (t : Test) (j : Judged) (n : ℕ) (w : PartValue) → IsJudged vs t j → reads_no_block t ≡ true
-    → ((v : PartValue) → IsNumberOf vs v j.number → (b : BlockNo) × IsNumberOf vs (updated (Block b) v) n) → IsNumberOf vs w n → j.passes ≡ passes t w
-judged_beside vs t j n w h reads beside number =
-    let v = get_or vs j.number w in
-    let its : IsNumberOf vs v j.number = record { known = h.known; is = λ d. get_or_default vs j.number d w h.known } in
+-- a value tells it of one at another block
+pub passes_beside : (vs : List PartValue) (t : Test) (p : Bool) (m n : ℕ) (w : PartValue) → m < length vs → reads_no_block t ≡ true → IsBeside vs m n → ((v : PartValue) → IsNumberOf vs v m → p ≡ passes t v) → IsNumberOf vs w n → p ≡ passes t w
+passes_beside vs t p m n w known reads beside told number =
+    let v = get_or vs m w in
+    let its : IsNumberOf vs v m = record { known = known; is = λ d. get_or_default vs m d w known } in
     let moved = beside v its in
-    h.is v its ∙ sym (unmoved t moved.0 v reads) ∙ ap (passes t) (sym (moved.1.is w) ∙ number.is w)
+    told v its ∙ sym (unmoved t moved.0 v reads) ∙ ap (passes t) (sym (moved.1.is w) ∙ number.is w)

@@ -3,18 +3,13 @@ use Rattle.std.specs.Prelude.{◌≡◌, ℕ, ◌<◌, Bool, true, false, ◌&&�
 use Rattle.abstract_state.specs.{declared.value.PartValue.{PartValue}, ValueOrder.{same_part}, Tables.{is_member}}
 use Rattle.flow_model.specs.{declared.test.Test.{Test}, Tests.{passes}}
 use Rattle.flow_model.specs.declared.test.Test.TheVariants as test
-use Rattle.numbered_sets.specs.{declared.passing.Judged.{Judged}, Numbers.{Numbers, has_number}, Pools.{IsNumberOf}, Views.{plain_set}}
+use Rattle.numbered_sets.specs.{Numbers.{Numbers, has_number}, Views.{plain_set}}
 
 -- A test of what a task does and holds, wherever it stands.
 abbrev pub reads_no_block : Test → Bool
 reads_no_block (test.Is w) = false
 reads_no_block (test.IsNot w) = false
 reads_no_block _ = true
-
--- It says whether the value with its number passes.
-pub record IsJudged (vs : List PartValue) (t : Test) (j : Judged) : Type 0 where
-  pub known : j.number < length vs
-  pub is : (v : PartValue) → IsNumberOf vs v j.number → j.passes ≡ passes t v
 
 -- The numbers of a set whose values pass.
 pub record ArePassing (vs : List PartValue) (t : Test) (x passing : Numbers) : Type 0 where

@@ -4,7 +4,7 @@ ghost use Rattle.abstract_state.specs.declared.value.Domain.{Domain};
 
 use crate::numbered_set::NumberedSet;
 use abstract_state::Domain;
-use bit_words::{SharedWords, further, split_words, words};
+use bit_words::{BitCursor, SharedWords, further, split_words, words};
 use osek_values::{Memory, Seq};
 use std::alloc::Global;
 use std::marker::Model;
@@ -35,8 +35,9 @@ impl Model for NumberedSets {
 }
 
 impl NumberedSets {
-    ghost use Rattle.std.specs.Prelude.{ℕ, false, IsTrue, ◌≡◌, ◌<◌, ◌≤◌, ◌+◌, ◌^◌, ◌==◌, not, length, map, slice_set, IfOk, OnOk, OnErr, EachIndex, SomeIndex};
+    ghost use Rattle.std.specs.Prelude.{ℕ, false, IsTrue, ◌≡◌, ◌<◌, ◌≤◌, ◌+◌, ◌*◌, ◌%◌, ◌^◌, ◌==◌, not, length, map, slice_set, IfOk, OnOk, OnErr, EachIndex, SomeIndex};
     ghost use Rattle.std.specs.Bool.{OnTrue, OnFalse};
+    ghost use Rattle.bit_words.specs.Cursors.{IsBefore, IsNextNumber, IsAtWord};
     ghost use Rattle.numbered_sets.specs.{Numbers.{numbers, has_number, with_number, kept_numbers, other_numbers, number_count, meets}, SetLists.{set_of, all_numbers, AreJoinedSets}};
 
     /// The sets without a number, for a component of each domain.
@@ -91,6 +92,53 @@ impl NumberedSets {
     {
         split_words::next(
             words::word_at(self.low.as_slice(), component),
+            words::word_at(self.high.as_slice(), component),
+            further::of(&self.more, component),
+            from,
+            below,
+        )
+    }
+
+    /// A cursor before the numbers of a component from one on.
+    pub(crate) fn cursor(&self, component: usize, from: usize) -> BitCursor
+        ensures { IsBefore (set_of self.now component).bits from result }
+    {
+        split_words::cursor(
+            words::word_at(self.low.as_slice(), component),
+            words::word_at(self.high.as_slice(), component),
+            further::of(&self.more, component),
+            from,
+        )
+    }
+
+    /// The next number of a cursor among those of a component, if it is below a bound; else the bound.
+    #[inline(always)]
+    pub(crate) fn advance(&self, component: usize, cursor: &mut BitCursor, below: usize) -> usize
+        requires { cursor.old.base % 64 ≡ 0 }
+        ensures number { (from : ℕ) → from ≤ below → IsBefore (set_of self.now component).bits from cursor.old →
+            IsNextNumber (set_of self.now component).bits from below result }
+        ensures behind { result < below → (from : ℕ) → IsBefore (set_of self.now component).bits from cursor.old →
+            IsBefore (set_of self.now component).bits (result + 1) cursor.new }
+    {
+        if cursor.rest != 0 {
+            return cursor.step().min(below);
+        }
+        *cursor = self.next_word(component, cursor.base / 64 + 1, below);
+        if cursor.rest == 0 {
+            return below;
+        }
+        cursor.step().min(below)
+    }
+
+    // a cursor before the numbers of a component's next word that has some, from one on that isn't the first
+    fn next_word(&self, component: usize, from: usize, below: usize) -> BitCursor
+        requires { 0 < from }
+        ensures word { result.base % 64 ≡ 0 }
+        ensures some { 0 < result.rest → IsAtWord (set_of self.now component).bits (64 * from) result }
+        ensures none { result.rest ≡ 0 → (k : ℕ) → 64 * from ≤ k → k < below → has_number (set_of self.now component) k ≡ false }
+    {
+        words::are_words(self.low.as_slice());
+        split_words::next_word(
             words::word_at(self.high.as_slice(), component),
             further::of(&self.more, component),
             from,

@@ -1,9 +1,10 @@
 //! Tests that a component's values were asked, and what they said of them, where that pays.
 ghost use Rattle.std.specs.{Prelude.{◌≡◌}, Bool.{OnTrue}};
 
+use crate::column::Column;
+use crate::judged_samples::JudgedSamples;
 use crate::numbered_entry::NumberedEntry;
 use crate::numbered_set::NumberedSet;
-use crate::passing::Judged;
 use crate::seen_values::SeenValues;
 use abstract_state::Domain;
 use flow_model::Test;
@@ -17,6 +18,7 @@ pub struct JudgedTest {
     /// How many values were asked.
     pub judged: usize,
     pub passing: NumberedSet,
+    pub samples: JudgedSamples,
     /// How many more were asked of which nothing was kept.
     pub spent: usize,
 }
@@ -25,13 +27,14 @@ pub struct JudgedTest {
 #[derive(Drop)]
 pub struct JudgedTests {
     pub tests: Seq<JudgedTest>,
+    /// For each load the number of the value that is asked for all that have it.
+    pub samples: Column,
 }
 
 impl JudgedTest {
-    ghost use Rattle.std.specs.Prelude.{List, ◌≡◌, ◌<◌, ◌+◌, ◌^◌, length, IfOk, IfSome, OnOk};
+    ghost use Rattle.std.specs.Prelude.{List, ◌≡◌, ◌<◌, ◌+◌, ◌^◌, length, IfOk, OnOk};
     ghost use Rattle.abstract_state.specs.declared.value.PartValue.{PartValue};
-    ghost use Rattle.numbered_sets.specs.Passing.{IsJudged};
-    ghost use Rattle.numbered_sets.specs.Judging.{IsJudgedTest};
+    ghost use Rattle.numbered_sets.specs.{Judging.{IsJudgedTest}, NumberedEntries.{numbers_at}, Passing.{ArePassing}};
 
     /// No value was asked yet.
     pub fn new(alloc: Global, domain: Domain, test: Test) -> JudgedTest
@@ -42,6 +45,7 @@ impl JudgedTest {
             test,
             judged: 0,
             passing: NumberedSet::new(alloc, domain),
+            samples: JudgedSamples::new(alloc, domain),
             spent: 0,
         }
     }
@@ -52,44 +56,73 @@ impl JudgedTest {
     }
 
     /// Asks the values that came in since the last time.
-    pub fn renew(&mut self, seen: &SeenValues) -> Result<(), Memory>
+    pub fn renew(&mut self, seen: &SeenValues, samples: &mut Column) -> Result<(), Memory>
         requires { IsJudgedTest seen.now.values self.old }
         ensures judged { IsJudgedTest seen.now.values self.new }
         ensures test { self.new.test ≡ self.old.test }
         ensures all { OnOk result (self.new.judged ≡ length seen.now.values) }
     {
-        let mut last = None;
         for _number in self.judged..seen.len() {
-            last = Some(self.judge_next(seen, last)?);
+            self.judge_next(seen, samples)?;
         }
         Ok(())
     }
 
     // asks the next value
-    fn judge_next(&mut self, seen: &SeenValues, last: Option<Judged>) -> Result<Judged, Memory>
+    fn judge_next(&mut self, seen: &SeenValues, samples: &mut Column) -> Result<(), Memory>
         requires next { self.old.judged < length seen.now.values }
         requires room { self.old.judged + 1 < 2 ^ 64 }
-        requires last { IfSome last (IsJudged seen.now.values self.old.test) }
         requires judged { IsJudgedTest seen.now.values self.old }
         ensures judged { IsJudgedTest seen.now.values self.new }
         ensures test { self.new.test ≡ self.old.test }
         ensures next { OnOk result (self.new.judged ≡ self.old.judged + 1) }
-        ensures last { IfOk result (IsJudged seen.now.values self.old.test) }
     {
         let number = self.judged;
-        let judged = seen.judge(&self.test, number, last);
-        if judged.passes {
+        let passes = self.samples.judge(seen, &self.test, samples, number)?;
+        if passes {
             self.passing.put(number)?;
         }
         self.judged = number + 1;
-        Ok(judged)
+        Ok(())
+    }
+
+    /// The numbers of a component's values that pass, of which each is asked.
+    pub fn among(
+        &mut self,
+        alloc: Global,
+        seen: &SeenValues,
+        samples: &mut Column,
+        component: usize,
+        entry: &NumberedEntry,
+    ) -> Result<NumberedSet, Memory>
+        requires given { component < length entry.now.sets }
+        requires judged { IsJudgedTest seen.now.values self.old }
+        ensures judged { IsJudgedTest seen.now.values self.new }
+        ensures test { self.new.test ≡ self.old.test }
+        ensures passing { IfOk result (ArePassing seen.now.values self.old.test (numbers_at entry.now component)) }
+    {
+        let mut passing = NumberedSet::new(alloc, seen.domain());
+        let values = seen.len();
+        let mut count: usize = 0;
+        let mut cursor = entry.sets.cursor(component, 0);
+        let mut number = entry.sets.advance(component, &mut cursor, values);
+        while number < values {
+            let passes = self.samples.judge(seen, &self.test, samples, number)?;
+            if passes {
+                passing.put(number)?;
+            }
+            count = count.saturating_add(1);
+            number = entry.sets.advance(component, &mut cursor, values);
+        }
+        self.spent = self.spent.saturating_add(count);
+        Ok(passing)
     }
 }
 
 impl JudgedTests {
     ghost use Rattle.std.specs.Prelude.{List, ◌≡◌, ◌<◌, [], length, slice_index_or, slice_set, IfOk, IfSome, OnOk, OnErr};
     ghost use Rattle.abstract_state.specs.declared.value.PartValue.{PartValue};
-    ghost use Rattle.numbered_sets.specs.{declared.judged.JudgedTest.{JudgedTest}, Judging.{AreJudgedTests, IsAskedAt, HasTestAt}, NumberedEntries.{numbers_at}, Passing.{IsSifted}};
+    ghost use Rattle.numbered_sets.specs.{declared.judged.JudgedTest.{JudgedTest}, Judging.{AreJudgedTests, IsAskedAt, HasTestAt}, NumberedEntries.{numbers_at}, Passing.{ArePassing, IsSifted}};
 
     /// No test was asked yet.
     pub fn new(alloc: Global) -> JudgedTests
@@ -97,6 +130,7 @@ impl JudgedTests {
     {
         JudgedTests {
             tests: Seq::new(alloc),
+            samples: Column::new(alloc),
         }
     }
 
@@ -123,10 +157,28 @@ impl JudgedTests {
             entry.keep(component, self.passing(place))?;
             return Ok(());
         }
-        let asked = seen.passing(alloc, test, component, entry)?;
-        self.spend(place, asked.count);
-        entry.keep(component, &asked.passing)?;
+        let passing = self.passing_among(alloc, seen, place, component, entry)?;
+        entry.keep(component, &passing)?;
         Ok(())
+    }
+
+    // the numbers of a component's values that pass the test at a place, of which each is asked
+    fn passing_among(
+        &mut self,
+        alloc: Global,
+        seen: &SeenValues,
+        place: usize,
+        component: usize,
+        entry: &NumberedEntry,
+    ) -> Result<NumberedSet, Memory>
+        requires judged { AreJudgedTests seen.now.values self.old.tests }
+        requires place { place < length self.old.tests }
+        requires given { component < length entry.now.sets }
+        ensures judged { AreJudgedTests seen.now.values self.new.tests }
+        ensures passing { IfOk result (λ passing. (none : JudgedTest) → ArePassing seen.now.values (slice_index_or self.old.tests place none).test (numbers_at entry.now component) passing) }
+    {
+        let judged = self.tests.at_mut(place);
+        judged.among(alloc, seen, &mut self.samples, component, entry)
     }
 
     // asks the test at a place of the values that came in since the last time
@@ -137,17 +189,8 @@ impl JudgedTests {
         ensures asked { OnOk result (IsAskedAt seen.now.values test.now self.new.tests place) }
     {
         let judged = self.tests.at_mut(place);
-        judged.renew(seen)?;
+        judged.renew(seen, &mut self.samples)?;
         Ok(())
-    }
-
-    // adds up how many values were asked the test at a place
-    fn spend(&mut self, place: usize, count: usize)
-        requires { place < length self.old.tests }
-        ensures judged { (values : List PartValue) → AreJudgedTests values self.old.tests → AreJudgedTests values self.new.tests }
-    {
-        let judged = self.tests.at_mut(place);
-        judged.spent = judged.spent.saturating_add(count);
     }
 
     // the place of a test, which comes in last where it is new

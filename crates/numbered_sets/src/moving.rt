@@ -141,13 +141,14 @@ impl SeenValues {
         let Some(column) = self.column(block) else {
             return Ok(numbers.next(from, count));
         };
-        let mut number = numbers.next(from, count);
+        let mut cursor = numbers.cursor(from);
+        let mut number = numbers.advance(&mut cursor, count);
         while number < count {
             let Some(after) = self.found_in(number, column) else {
                 return Ok(number);
             };
             made.put(after)?;
-            number = numbers.next(number + 1, count);
+            number = numbers.advance(&mut cursor, count);
         }
         Ok(number)
     }
@@ -167,23 +168,24 @@ impl SeenValues {
         ensures made { IfOk result (λ n. AreMade (updated update.now) self.now.values numbers.now from made.old → AreMade (updated update.now) self.now.values numbers.now n made.new) }
     {
         let count = self.len();
-        let mut number = numbers.next(from, count);
         if !changes_load(self.domain, update) {
-            return Ok(number);
+            return Ok(numbers.next(from, count));
         }
         let Some(standing) = standing_after(self.domain, update) else {
-            return Ok(number);
+            return Ok(numbers.next(from, count));
         };
         let Some(loads) = self.loads.numbers_after(update) else {
-            return Ok(number);
+            return Ok(numbers.next(from, count));
         };
         self.loads.are_distinct();
+        let mut cursor = numbers.cursor(from);
+        let mut number = numbers.advance(&mut cursor, count);
         while number < count {
             let Some(after) = found_with(self.domain, &self.slots, standing, loads, number) else {
                 return Ok(number);
             };
             made.put(after)?;
-            number = numbers.next(number + 1, count);
+            number = numbers.advance(&mut cursor, count);
         }
         Ok(number)
     }
@@ -204,13 +206,14 @@ impl SeenValues {
     {
         let count = self.len();
         let load = self.load_of_none();
-        let mut number = numbers.next(from, count);
+        let mut cursor = numbers.cursor(from);
+        let mut number = numbers.advance(&mut cursor, count);
         while number < count {
             let Some(after) = self.found_released(number, releases, load) else {
                 return Ok(number);
             };
             made.put(after)?;
-            number = numbers.next(number + 1, count);
+            number = numbers.advance(&mut cursor, count);
         }
         Ok(number)
     }

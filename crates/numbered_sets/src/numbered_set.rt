@@ -2,7 +2,7 @@
 ghost use Rattle.std.specs.Prelude.{◌≡◌};
 
 use abstract_state::Domain;
-use bit_words::{split_words, words};
+use bit_words::{BitCursor, split_words, words};
 use osek_values::Memory;
 use std::alloc::Global;
 use std::marker::Model;
@@ -28,8 +28,8 @@ impl Model for NumberedSet {
 }
 
 impl NumberedSet {
-    ghost use Rattle.std.specs.{Prelude.{ℕ, false, IsTrue, ◌≡◌, ◌∷◌, ◌<◌, ◌≤◌, ◌+◌, ◌^◌, ◌==◌, not, bit_and, IfOk, OnOk, OnErr}, Bool.{OnTrue}};
-    ghost use Rattle.bit_words.specs.Words.{bits_of_words};
+    ghost use Rattle.std.specs.{Prelude.{ℕ, false, IsTrue, ◌≡◌, ◌∷◌, ◌<◌, ◌≤◌, ◌+◌, ◌%◌, ◌^◌, ◌==◌, not, bit_and, IfOk, OnOk, OnErr}, Bool.{OnTrue}};
+    ghost use Rattle.bit_words.specs.{Words.{bits_of_words}, Cursors.{IsBefore, IsNextNumber}};
     ghost use Rattle.numbered_sets.specs.Numbers.{numbers, has_number, with_number, joined_numbers, kept_numbers, other_numbers, number_count, meets};
 
     /// The set without a number. It takes no memory yet.
@@ -88,6 +88,32 @@ impl NumberedSet {
         ensures none { (k : ℕ) → from ≤ k → k < result → has_number self.now k ≡ false }
     {
         split_words::next(self.low, self.high, self.more.as_slice(), from, below)
+    }
+
+    /// A cursor before the numbers from one on.
+    pub(crate) fn cursor(&self, from: usize) -> BitCursor
+        ensures { IsBefore self.now.bits from result }
+    {
+        split_words::cursor(self.low, self.high, self.more.as_slice(), from)
+    }
+
+    /// The next number of a cursor, if it is below a bound; else the bound.
+    #[inline(always)]
+    pub(crate) fn advance(&self, cursor: &mut BitCursor, below: usize) -> usize
+        requires { cursor.old.base % 64 ≡ 0 }
+        ensures number { (from : ℕ) → from ≤ below → IsBefore self.now.bits from cursor.old → IsNextNumber self.now.bits from below result }
+        ensures behind { result < below → (from : ℕ) → IsBefore self.now.bits from cursor.old → IsBefore self.now.bits (result + 1) cursor.new }
+    {
+        words::are_two_words(self.low, self.high);
+        if cursor.rest != 0 {
+            return cursor.step().min(below);
+        }
+        let place = cursor.base / 64 + 1;
+        *cursor = split_words::next_word(self.high, self.more.as_slice(), place, below);
+        if cursor.rest == 0 {
+            return below;
+        }
+        cursor.step().min(below)
     }
 
     /// Puts a number in the set, and tells whether it is new there.

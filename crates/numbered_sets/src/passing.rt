@@ -1,86 +1,16 @@
 //! Which of a component's values pass a test.
-ghost use Rattle.std.specs.Prelude.{◌≡◌, ◌<◌, length};
-ghost use Rattle.numbered_sets.specs.Passing.{reads_no_block};
-
 use crate::numbered_entry::NumberedEntry;
 use crate::numbered_set::NumberedSet;
 use crate::seen_values::SeenValues;
 use abstract_state::PartValue;
-use flow_model::Test;
 use osek_values::Memory;
 use std::alloc::Global;
 
-/// The number of a value that was asked a test, and whether it passed.
-#[derive(Drop)]
-pub struct Judged {
-    pub number: usize,
-    pub passes: bool,
-}
-
-/// The numbers of a set whose values pass a test.
-#[derive(Drop)]
-pub struct Asked {
-    pub passing: NumberedSet,
-    /// How many values were asked.
-    pub count: usize,
-}
-
 impl SeenValues {
-    ghost use Rattle.std.specs.Prelude.{◌≡◌, ◌<◌, length, slice_set, IfOk, OnOk, OnErr, IfSome};
+    ghost use Rattle.std.specs.Prelude.{◌≡◌, ◌<◌, length, slice_set, IfOk, OnOk, OnErr};
     ghost use Rattle.abstract_state.specs.{declared.value.PartValue.{PartValue}, Tables.{is_member}};
     ghost use Rattle.flow_model.specs.declared.test.Test.TheVariants as Test;
-    ghost use Rattle.numbered_sets.specs.{Passing.{IsJudged, ArePassing, IsNumberAlone, IsSifted}, NumberedEntries.{numbers_at}, Views.{plain_set}};
-
-    /// Asks the values of a component's set.
-    pub fn passing(
-        &self,
-        alloc: Global,
-        test: &Test,
-        component: usize,
-        entry: &NumberedEntry,
-    ) -> Result<Asked, Memory>
-        requires { component < length entry.now.sets }
-        ensures { IfOk result (λ asked. ArePassing self.now.values test.now (numbers_at entry.now component) asked.passing) }
-    {
-        let mut passing = NumberedSet::new(alloc, self.domain());
-        let values = self.len();
-        let mut last = None;
-        let mut count: usize = 0;
-        let mut number = entry.next(component, 0, values);
-        while number < values {
-            let judged = self.judge(test, number, last);
-            if judged.passes {
-                passing.insert(number)?;
-            }
-            last = Some(judged);
-            count = count.saturating_add(1);
-            number = entry.next(component, number + 1, values);
-        }
-        Ok(Asked { passing, count })
-    }
-
-    /// Whether a value passes a test. What a task holds tells it mostly, and then one that holds the same and was judged last tells it too.
-    pub fn judge(&self, test: &Test, number: usize, last: Option<Judged>) -> Judged
-        requires given { number < length self.now.values }
-        requires last { IfSome last (IsJudged self.now.values test.now) }
-        ensures number { result.number ≡ number }
-        ensures judged { IsJudged self.now.values test.now result }
-    {
-        if reads_no_block(test) {
-            if let Some(last) = last {
-                if self.are_beside(last.number, number) {
-                    return Judged {
-                        number,
-                        passes: last.passes,
-                    };
-                }
-            }
-        }
-        Judged {
-            number,
-            passes: test.passes(&self.value(number)),
-        }
-    }
+    ghost use Rattle.numbered_sets.specs.{Passing.{IsNumberAlone, IsSifted}, NumberedEntries.{numbers_at}, Views.{plain_set}};
 
     /// Leaves out all numbers of a component but that of a value.
     pub fn keep_value(
@@ -168,11 +98,4 @@ impl SeenValues {
             }
         }
     }
-}
-
-// whether a test passes alike at each block
-fn reads_no_block(test: &Test) -> bool
-    ensures { result ≡ reads_no_block test.now }
-{
-    !matches!(test, Test::Is(_) | Test::IsNot(_))
 }

@@ -1,10 +1,11 @@
 //! The values of one domain that were seen, by number.
 ghost use Rattle.std.specs.Prelude.{◌≡◌};
 
+use crate::column::{Column, NONE};
 use crate::loads::{Load, Loads};
 use crate::slot_values::{
-    BlockColumn, block_column, block_in, changes_load, load_in, slot_after, slot_at_block,
-    slot_for, slot_of, slot_place, slot_released, slot_width, value_at,
+    BlockColumn, block_column, block_in, changes_load, load_in, slot_after, slot_for, slot_of,
+    slot_place, slot_released, slot_width, value_at,
 };
 use crate::slots::Slots;
 use abstract_state::{Domain, PartValue};
@@ -212,18 +213,39 @@ impl SeenValues {
         self.slots.find_in(place.offset, place.row as usize)
     }
 
-    /// Whether two values are seen to be Live with one load, so that they differ at most in their block.
-    pub fn are_beside(&self, number: usize, other: usize) -> bool
-        requires number { number < length self.now.values }
-        requires other { other < length self.now.values }
-        ensures { OnTrue result (IsBeside self.now.values number other) }
+    /// The number of the value that is asked for all with the load of a Live value, if it is among these, which are by load.
+    pub fn sample(&self, samples: &Column, number: usize) -> Option<usize>
+        requires { number < length self.now.values }
+        ensures known { IfSome result (λ m. m < length self.now.values) }
+        ensures beside { IfSome result (λ m. IsBeside self.now.values m number) }
     {
-        let slot = self.slots.at(other);
-        let block = block_in(self.domain, slot);
-        match slot_at_block(self.domain, &self.loads, self.slots.at(number), block) {
-            None => false,
-            Some(moved) => moved == slot,
+        let load = load_in(self.domain, self.slots.at(number))?;
+        let sample = samples.at(load) as usize;
+        if sample >= self.slots.len() {
+            return None;
         }
+        let other = load_in(self.domain, self.slots.at(sample))?;
+        if other != load {
+            return None;
+        }
+        self.loads.are_distinct();
+        Some(sample)
+    }
+
+    /// Puts in that a Live value is asked for all with its load. Nothing rests on it.
+    pub fn add_sample(&self, samples: &mut Column, number: usize) -> Result<(), Memory>
+        requires { number < length self.now.values }
+    {
+        let Some(place) = slot_place(self.domain, self.slots.at(number)) else {
+            return Ok(());
+        };
+        if place.row == 0 || number >= NONE as usize {
+            return Ok(());
+        }
+        let row = place.row as usize;
+        samples.widen(row)?;
+        samples.put(row - 1, number as u32);
+        Ok(())
     }
 
     /// None stands twice, and each is one of the domain's.

@@ -6,12 +6,23 @@ use Rattle.numbered_sets.proofs.MadeLaws.{made_on, made_more}
 use Rattle.numbered_sets.proofs.seen_values.SeenValues.pass_released.Goals as goal
 
 pub loop-number-init : goal.loop-number-init
-loop-number-init c = record {
-  up = c.next-number.ensures.up;
-  few = c.next-number.ensures.few;
-  has = c.next-number.ensures.has;
-  made = made_on (updated (update.Release c.args.releases.now)) c.args.self.now.values c.args.numbers.now c.args.made.now c.args.from c.next-number.result c.next-number.ensures.up c.next-number.ensures.none;
-}
+loop-number-init c =
+    let next = c.advance-number.ensures.number c.args.from (omega (arith, c.requires, c.len-count.ensures)) c.cursor-cursor.ensures in
+    record {
+      up = next.up;
+      few = next.few;
+      has = next.has;
+      cursor = λ lt. c.advance-number.ensures.behind lt c.args.from c.cursor-cursor.ensures;
+      made = made_on (updated (update.Release c.args.releases.now)) c.args.self.now.values c.args.numbers.now c.args.made.now c.args.from c.advance-number.result next.up next.none;
+    }
+
+pub advance-number-requires-in-loop-number : goal.advance-number-requires-in-loop-number
+advance-number-requires-in-loop-number c = (c.loop-number.invariant.cursor c.loop-number-test.true).word
+
+pub loop-number-smaller : goal.loop-number-smaller
+loop-number-smaller c =
+    let next = c.advance-number-in-loop-number.ensures.number (c.loop-number.number + 1) (omega (arith, c.loop-number-test.true)) (c.loop-number.invariant.cursor c.loop-number-test.true) in
+    omega (arith, c.loop-number-test.true, next.up)
 
 pub loop-number-preserved : goal.loop-number-preserved
 loop-number-preserved c =
@@ -21,12 +32,15 @@ loop-number-preserved c =
     let n = c.loop-number.number in
     let its = c.in-Some.ensures in
     let known : n < length vs = omega (arith, c.loop-number-test.true, c.len-count.ensures) in
+    let here = c.loop-number.invariant.cursor c.loop-number-test.true in
+    let next = c.advance-number-in-loop-number.ensures.number (n + 1) (omega (arith, c.loop-number-test.true)) here in
     record {
-      up = omega (arith, c.loop-number.invariant.up, c.next-number-in-loop-number.ensures.up);
-      few = c.next-number-in-loop-number.ensures.few;
-      has = c.next-number-in-loop-number.ensures.has;
+      up = omega (arith, c.loop-number.invariant.up, next.up);
+      few = next.few;
+      has = next.has;
+      cursor = λ lt. c.advance-number-in-loop-number.ensures.behind lt (n + 1) here;
       made = λ begun.
-          made_on becomes vs old c.put.new.self (n + 1) c.next-number-in-loop-number.result c.next-number-in-loop-number.ensures.up c.next-number-in-loop-number.ensures.none
+          made_on becomes vs old c.put.new.self (n + 1) c.advance-number-in-loop-number.result next.up next.none
           (subst (AreMade becomes vs old (n + 1)) (sym c.in_ok-put.ensures.set)
           (made_more becomes vs old c.loop-number.made n c.in-Some.after known (c.loop-number.invariant.has c.loop-number-test.true) its (c.loop-number.invariant.made begun)));
     }

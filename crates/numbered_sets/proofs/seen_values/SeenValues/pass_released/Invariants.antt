@@ -1,4 +1,5 @@
-use Rattle.std.proofs.Common.{◌-◌, ◌≤◌, ◌<◌, IsTrue}
+use Rattle.std.proofs.Common.{◌+◌, ◌-◌, ◌≤◌, ◌<◌, IsTrue}
+use Rattle.bit_words.specs.Cursors.{IsBefore}
 use Rattle.flow_model.specs.Tests.{updated}
 use Rattle.flow_model.specs.declared.change.Update.TheVariants as update
 use Rattle.numbered_sets.specs.{Numbers.{has_number}, Made.{AreMade}}
@@ -12,5 +13,6 @@ invariant-loop-number l = record {
   up : l.from ≤ l.number;
   few : l.number ≤ l.count;
   has : l.number < l.count → IsTrue (has_number l.numbers l.number);
+  cursor : l.number < l.count → IsBefore l.numbers.bits (l.number + 1) l.cursor;
   made : AreMade (updated (update.Release l.releases)) l.self.values l.numbers l.from l.initial.made → AreMade (updated (update.Release l.releases)) l.self.values l.numbers l.number l.made;
 }
