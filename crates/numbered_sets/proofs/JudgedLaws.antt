@@ -4,16 +4,16 @@ use Rattle.std.proofs.lemmas.{Bool.{cases_eq, eq-eqb, ne_eqb}, List.{length-appe
 use Rattle.bit_words.proofs.BitCounts.{has_either, has_one}
 use Rattle.abstract_state.specs.declared.value.{PartValue.{PartValue}}
 use Rattle.flow_model.specs.{declared.test.Test.{Test}, Tests.{passes}}
-use Rattle.numbered_sets.specs.declared.{judged.JudgedTest.{JudgedTest}, judged_samples.JudgedSamples.{JudgedSamples}}
-use Rattle.numbered_sets.specs.{Judging.{AreJudgedSamples, IsJudgedTest, AreJudgedTests, IsAskedAt}, Numbers.{Numbers, has_number, with_number, kept_numbers}, Passing.{IsSifted}, Pools.{IsExtended}}
-use Rattle.numbered_sets.proofs.{SiftLaws.{kept_by}, SampleLaws.{samples_longer}}
+use Rattle.numbered_sets.specs.declared.judged.JudgedTest.{JudgedTest}
+use Rattle.numbered_sets.specs.{Judging.{IsJudgedTest, AreJudgedTests, IsAskedAt}, Numbers.{Numbers, has_number, with_number, kept_numbers}, Passing.{IsSifted}, Pools.{IsExtended}}
+use Rattle.numbered_sets.proofs.SiftLaws.{kept_by}
 
-abbrev pub judged_test : Test → ℕ → Numbers → JudgedSamples → ℕ → JudgedTest
-judged_test t k x y s = record { test = t; judged = k; passing = x; samples = y; spent = s }
+abbrev pub judged_test : Test → ℕ → Numbers → ℕ → JudgedTest
+judged_test t k x s = record { test = t; judged = k; passing = x; spent = s }
 
 module _ (vs : List PartValue) (x : JudgedTest) (next : x.judged < length vs) (h : IsJudgedTest vs x) where
   -- the next value passes
-  pub judged_taken : ((d : PartValue) → passes x.test (get_or vs x.judged d) ≡ true) → IsJudgedTest vs (judged_test x.test (x.judged + 1) (with_number x.passing x.judged) x.samples x.spent)
+  pub judged_taken : ((d : PartValue) → passes x.test (get_or vs x.judged d) ≡ true) → IsJudgedTest vs (judged_test x.test (x.judged + 1) (with_number x.passing x.judged) x.spent)
   judged_taken passed = record {
     few = omega (arith, next);
     each = λ n d lt. elim (cases_eq n x.judged) [
@@ -26,7 +26,6 @@ module _ (vs : List PartValue) (x : JudgedTest) (next : x.judged < length vs) (h
     ];
     past = λ n le.
         has_either x.passing.bits (2 ^ x.judged) n ∙ ap₂ (λ (a b : Bool). a || b) (h.past n (omega (arith, le))) (has_one x.judged n ∙ ne_eqb n x.judged (λ e. omega (arith, e, le)));
-    samples = h.samples;
   }
     where
       or_true : (b : Bool) → (b || true) ≡ true
@@ -38,7 +37,7 @@ module _ (vs : List PartValue) (x : JudgedTest) (next : x.judged < length vs) (h
       or_false false = refl
 
   -- it doesn't
-  pub judged_left : ((d : PartValue) → passes x.test (get_or vs x.judged d) ≡ false) → IsJudgedTest vs (judged_test x.test (x.judged + 1) x.passing x.samples x.spent)
+  pub judged_left : ((d : PartValue) → passes x.test (get_or vs x.judged d) ≡ false) → IsJudgedTest vs (judged_test x.test (x.judged + 1) x.passing x.spent)
   judged_left failed = record {
     few = omega (arith, next);
     each = λ n d lt. elim (cases_eq n x.judged) [
@@ -46,12 +45,7 @@ module _ (vs : List PartValue) (x : JudgedTest) (next : x.judged < length vs) (h
       | inr other ↦ h.each n d (omega (arith, lt, other))
     ];
     past = λ n le. h.past n (omega (arith, le));
-    samples = h.samples;
   }
-
--- values were asked for others
-pub judged_sampled : (vs : List PartValue) (x : JudgedTest) (y : JudgedSamples) (s : ℕ) → IsJudgedTest vs x → AreJudgedSamples vs x.test y → IsJudgedTest vs (judged_test x.test x.judged x.passing y s)
-judged_sampled vs x y s h k = record { few = h.few; each = h.each; past = h.past; samples = k }
 
 -- values came in
 pub judged_longer : (vs ws : List PartValue) (tests : List JudgedTest) → IsExtended vs ws → AreJudgedTests vs tests → AreJudgedTests ws tests
@@ -64,7 +58,6 @@ judged_longer vs ws tests grown h x m =
           (let known : n < length vs = omega (arith, lt, k.few) in
           k.each n d lt ∙ ap (passes x.test) (sym (ap (λ (xs : List PartValue). get_or xs n d) grown.is ∙ get_or_append_left vs grown.more d n known)));
       past = k.past;
-      samples = samples_longer vs ws x.test x.samples grown k.samples;
     }
 
 -- a test more, of no value yet

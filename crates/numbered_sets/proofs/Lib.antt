@@ -6,7 +6,6 @@ pub mod KnownNumbers
 pub mod NumberingLaws
 pub mod MeetLaws
 pub mod SiftLaws
-pub mod SampleLaws
 pub mod JudgedLaws
 pub mod KeptLaws
 pub mod AloneLaws

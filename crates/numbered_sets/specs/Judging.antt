@@ -1,22 +1,14 @@
 -- Tests that values were asked once, with the numbers of those that pass.
-use Rattle.std.specs.Prelude.{◌≡◌, ℕ, ◌<◌, ◌≤◌, true, false, IsTrue, List, length, slice_index_or, Contains}
+use Rattle.std.specs.Prelude.{◌≡◌, ℕ, ◌<◌, ◌≤◌, false, List, length, slice_index_or, Contains}
 use Rattle.abstract_state.specs.declared.value.PartValue.{PartValue}
 use Rattle.flow_model.specs.{declared.test.Test.{Test}, Tests.{passes}}
-use Rattle.numbered_sets.specs.{declared.{judged.JudgedTest.{JudgedTest}, judged_samples.JudgedSamples.{JudgedSamples}}, Numbers.{has_number}, Pools.{IsNumberOf}}
-
--- What the test said is true of each value that was asked.
-pub record AreJudgedSamples (vs : List PartValue) (t : Test) (x : JudgedSamples) : Type 0 where
-  pub asked : (n : ℕ) → IsTrue (has_number x.asked n) → n < length vs
-  pub few : (n : ℕ) → IsTrue (has_number x.passing n) → n < length vs
-  pub passed : (n : ℕ) (v : PartValue) → IsNumberOf vs v n → IsTrue (has_number x.passing n) → passes t v ≡ true
-  pub failed : (n : ℕ) (v : PartValue) → IsNumberOf vs v n → IsTrue (has_number x.asked n) → has_number x.passing n ≡ false → passes t v ≡ false
+use Rattle.numbered_sets.specs.{declared.judged.JudgedTest.{JudgedTest}, Numbers.{has_number}}
 
 -- The numbers are those of the first values that pass.
 pub record IsJudgedTest (vs : List PartValue) (x : JudgedTest) : Type 0 where
   pub few : x.judged ≤ length vs
   pub each : (n : ℕ) (none : PartValue) → n < x.judged → has_number x.passing n ≡ passes x.test (slice_index_or vs n none)
   pub past : (n : ℕ) → x.judged ≤ n → has_number x.passing n ≡ false
-  pub samples : AreJudgedSamples vs x.test x.samples
 
 abbrev pub AreJudgedTests : List PartValue → List JudgedTest → Type 0
 AreJudgedTests vs tests = (x : JudgedTest) → Contains tests x → IsJudgedTest vs x

@@ -1,8 +1,8 @@
 //! Tests that a component's values were asked, and what they said of them, where that pays.
 ghost use Rattle.std.specs.{Prelude.{◌≡◌}, Bool.{OnTrue}};
+ghost use Rattle.numbered_sets.specs.Passing.{reads_no_block};
 
 use crate::column::Column;
-use crate::judged_samples::JudgedSamples;
 use crate::numbered_entry::NumberedEntry;
 use crate::numbered_set::NumberedSet;
 use crate::seen_values::SeenValues;
@@ -18,7 +18,6 @@ pub struct JudgedTest {
     /// How many values were asked.
     pub judged: usize,
     pub passing: NumberedSet,
-    pub samples: JudgedSamples,
     /// How many more were asked of which nothing was kept.
     pub spent: usize,
 }
@@ -34,7 +33,8 @@ pub struct JudgedTests {
 impl JudgedTest {
     ghost use Rattle.std.specs.Prelude.{List, ◌≡◌, ◌<◌, ◌+◌, ◌^◌, length, IfOk, OnOk};
     ghost use Rattle.abstract_state.specs.declared.value.PartValue.{PartValue};
-    ghost use Rattle.numbered_sets.specs.{Judging.{IsJudgedTest}, NumberedEntries.{numbers_at}, Passing.{ArePassing}};
+    ghost use Rattle.flow_model.specs.Tests.{passes};
+    ghost use Rattle.numbered_sets.specs.{Judging.{IsJudgedTest}, NumberedEntries.{numbers_at}, Passing.{ArePassing}, Pools.{IsNumberOf}};
 
     /// No value was asked yet.
     pub fn new(alloc: Global, domain: Domain, test: Test) -> JudgedTest
@@ -45,7 +45,6 @@ impl JudgedTest {
             test,
             judged: 0,
             passing: NumberedSet::new(alloc, domain),
-            samples: JudgedSamples::new(alloc, domain),
             spent: 0,
         }
     }
@@ -78,12 +77,29 @@ impl JudgedTest {
         ensures next { OnOk result (self.new.judged ≡ self.old.judged + 1) }
     {
         let number = self.judged;
-        let passes = self.samples.judge(seen, &self.test, samples, number)?;
+        let passes = self.judge(seen, samples, number)?;
         if passes {
             self.passing.put(number)?;
         }
         self.judged = number + 1;
         Ok(())
+    }
+
+    // Whether a value passes. What a task holds tells it mostly, so that of the values with one load the first alone is asked.
+    fn judge(&self, seen: &SeenValues, samples: &mut Column, number: usize) -> Result<bool, Memory>
+        requires given { number < length seen.now.values }
+        requires judged { IsJudgedTest seen.now.values self.now }
+        ensures { IfOk result (λ passed. (v : PartValue) → IsNumberOf seen.now.values v number → passed ≡ passes self.now.test v) }
+    {
+        match seen.sample(samples, number) {
+            Some(sample) => {
+                if sample < self.judged && reads_no_block(&self.test) {
+                    return Ok(self.passing.has(sample));
+                }
+            }
+            None => seen.add_sample(samples, number)?,
+        }
+        Ok(self.test.passes(&seen.value(number)))
     }
 
     /// The numbers of a component's values that pass, of which each is asked.
@@ -107,7 +123,7 @@ impl JudgedTest {
         let mut cursor = entry.sets.cursor(component, 0);
         let mut number = entry.sets.advance(component, &mut cursor, values);
         while number < values {
-            let passes = self.samples.judge(seen, &self.test, samples, number)?;
+            let passes = self.judge(seen, samples, number)?;
             if passes {
                 passing.put(number)?;
             }
@@ -250,4 +266,11 @@ fn are_same(one: &Test, other: &Test) -> bool
         (Test::WaitsNotAt(one), Test::WaitsNotAt(other)) => one.is(other),
         _ => false,
     }
+}
+
+// whether a test passes alike at each block
+fn reads_no_block(test: &Test) -> bool
+    ensures { result ≡ reads_no_block test.now }
+{
+    !matches!(test, Test::Is(_) | Test::IsNot(_))
 }

@@ -22,7 +22,6 @@
 //!             Column    the number of each slot of one column, by its row
 //!         JudgedTests   tests that were asked of these values; not shared
 //!           JudgedTest  one test, and the numbers of the values that pass: a NumberedSet
-//!             JudgedSamples  of the values with one load, which it asked for all: two NumberedSets
 //!         MadeSets      what updates made of sets with many numbers; not shared
 //!           MadeSet     one update, a set, and what the update made of it: two NumberedSets
 //!
@@ -37,7 +36,6 @@ mod column;
 mod counts;
 mod flat_sets;
 mod judged;
-mod judged_samples;
 pub mod laws;
 mod load_updates;
 mod loads;

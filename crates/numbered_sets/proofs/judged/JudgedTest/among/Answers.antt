@@ -1,8 +1,8 @@
-use Rattle.std.proofs.{Common.{◌≡◌, ◌<◌, ◌+◌, ◌∙◌, length, get_or, refl, sym, ap, subst, arith}, lemmas.List.{get_or_default}}
+use Rattle.std.proofs.{Common.{◌≡◌, ◌<◌, ◌+◌, ◌∙◌, length, get_or, sym, subst, arith}, lemmas.List.{get_or_default}}
 use Rattle.abstract_state.specs.declared.value.PartValue.{PartValue}
-use Rattle.flow_model.specs.{declared.test.Test.{Test}, Tests.{passes}}
-use Rattle.numbered_sets.specs.{declared.judged.JudgedTest.{JudgedTest}, Judging.{AreJudgedSamples}, Numbers.{Numbers}, NumberedEntries.{numbers_at}}
-use Rattle.numbered_sets.proofs.{JudgedLaws.{judged_test}, SiftLaws.{ArePassingBelow, none_passing, passing_on, passing_taken, passing_left}}
+use Rattle.flow_model.specs.Tests.{passes}
+use Rattle.numbered_sets.specs.{Numbers.{Numbers}, NumberedEntries.{numbers_at}}
+use Rattle.numbered_sets.proofs.SiftLaws.{ArePassingBelow, none_passing, passing_on, passing_taken, passing_left}
 use Rattle.numbered_sets.proofs.judged.JudgedTest.among.Goals.{then-passes+in_ok-put, else-passes}
 use Rattle.numbered_sets.proofs.judged.JudgedTest.among.Goals as goal
 
@@ -14,8 +14,6 @@ loop-number-init c =
     let next = c.advance-number.ensures.number 0 (omega arith) c.cursor-cursor.ensures in
     let begun = subst (λ (x : Numbers). ArePassingBelow values test set x 0) (sym c.new-passing.ensures) (none_passing values test set c.domain.result) in
     record {
-      same = refl;
-      samples = c.requires.judged.samples;
       few = next.few;
       has = next.has;
       cursor = λ lt. c.advance-number.ensures.behind lt 0 c.cursor-cursor.ensures;
@@ -36,9 +34,8 @@ loop-number-preserved c =
     let there = c.loop-number.invariant.has c.loop-number-test.true in
     let here = c.loop-number.invariant.cursor c.loop-number-test.true in
     let next = c.advance-number-in-loop-number.ensures.number (number + 1) (omega (arith, c.loop-number-test.true)) here in
-    let same : c.loop-number.self.test ≡ test = ap (λ (x : JudgedTest). x.test) c.loop-number.invariant.same in
     let its : (d : PartValue) → number < length values → c.in_ok-passes.passes ≡ passes test (get_or values number d) = λ d known.
-    c.in_ok-passes.ensures.passes (get_or values number d) (record { known = known; is = λ e. get_or_default values number e d known }) ∙ ap (λ (t : Test). passes t (get_or values number d)) same in
+    c.in_ok-passes.ensures (get_or values number d) (record { known = known; is = λ e. get_or_default values number e d known }) in
     let more : ArePassingBelow values test set c.if-passes.passing (number + 1) = elim c.if-passes.branch [
       | then-passes+in_ok-put w ↦
           subst (λ (x : Numbers). ArePassingBelow values test set x (number + 1)) (sym (w.passing-is ∙ w.in_ok-put.ensures.set))
@@ -48,8 +45,6 @@ loop-number-preserved c =
           (passing_left values test set c.loop-number.passing number there c.loop-number.invariant.passing (λ d known. sym (its d known) ∙ w.if-passes.false))
     ] in
     record {
-      same = ap (λ (x : JudgedTest). judged_test x.test x.judged x.passing c.judge.new.self x.spent) c.loop-number.invariant.same;
-      samples = subst (λ (t : Test). AreJudgedSamples values t c.judge.new.self) same c.judge.ensures.judged;
       few = next.few;
       has = next.has;
       cursor = λ lt. c.advance-number-in-loop-number.ensures.behind lt (number + 1) here;
