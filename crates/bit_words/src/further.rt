@@ -255,9 +255,9 @@ fn each_shared(alloc: Global, more: &Seq<SharedWords>) -> Result<Seq<SharedWords
     ensures as_many { IfOk result (λ copy. length copy ≡ length more.now) }
     ensures words { IfOk result (λ copy. (k : ℕ) → further_at copy k ≡ further_at more.now k) }
 {
-    let mut copy = Seq::new(alloc);
+    let mut copy = Vec::with_capacity(alloc, more.len())?;
     for words in more.as_slice() {
         copy.push(words.share()?)?;
     }
-    Ok(copy)
+    Ok(Seq::of(copy))
 }

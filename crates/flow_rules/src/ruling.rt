@@ -6,7 +6,7 @@ ghost use Rattle.flow_model.specs.{Effects.{AreAllAllowed, IsKnownStay}, Rules.{
 ghost use Rattle.numbered_sets.specs.{NumberedEntries.{number_domains}, Views.{plain_entry, AreNumbersOf}};
 ghost use Rattle.flow_exits.specs.Leaving.{effect_rule};
 ghost use Rattle.flow_rules.specs.Instructions.{AddsInstructionRules};
-ghost use Rattle.point_exits.specs.{Applying.{MayApply}, Growing.{IsGrown}, OneProof.{SameDomains-prop}};
+ghost use Rattle.point_exits.specs.{Applying.{KeepsDomains}, Growing.{IsGrown}, OneProof.{SameDomains-prop}};
 ghost use Rattle.flow_rules.specs.Ruling.{outcomes_by, AddsRulesOf};
 ghost use Rattle.point_exits.specs.Groups.{exit_at as exit_of_group, exits_of, all_exits, IsKnownGroup, AreKnownGroups};
 
@@ -103,11 +103,15 @@ impl<'a> Ruled<'a> {
     ) -> Result<(), Memory>
         requires app { numbering.old.app.now ≡ self.now.app.now }
         requires plain { plain_entry numbering.old.pool self.now.numbers.now ≡ self.now.from.now }
-        requires effect { MayApply (effect_rule effect.now) numbering.old.pool self.now.numbers.now }
+        requires numbers { AreNumbersOf numbering.old.pool self.now.numbers.now }
+        requires domains { KeepsDomains (effect_rule effect.now) (plain_entry numbering.old.pool self.now.numbers.now) }
         requires stays { IsKnownStay self.now.app.now effect.now.leaving.stay }
         ensures grown { IsGrown numbering.old numbering.new }
         ensures added { OnOk result (AddsRulesOf self.now.app.now self.now.from.now effect.now rules.old rules.new) }
     {
+        if !self.numbers.is_filled() {
+            return Ok(());
+        }
         let Some(after) = numbering.after(alloc, self.numbers, effect)? else {
             return Ok(());
         };

@@ -100,7 +100,7 @@ impl NumberedSets {
     }
 
     /// A cursor before the numbers of a component from one on.
-    pub(crate) fn cursor(&self, component: usize, from: usize) -> BitCursor
+    pub fn cursor(&self, component: usize, from: usize) -> BitCursor
         ensures { IsBefore (set_of self.now component).bits from result }
     {
         split_words::cursor(
@@ -113,7 +113,7 @@ impl NumberedSets {
 
     /// The next number of a cursor among those of a component, if it is below a bound; else the bound.
     #[inline(always)]
-    pub(crate) fn advance(&self, component: usize, cursor: &mut BitCursor, below: usize) -> usize
+    pub fn advance(&self, component: usize, cursor: &mut BitCursor, below: usize) -> usize
         requires { cursor.old.base % 64 ≡ 0 }
         ensures number { (from : ℕ) → from ≤ below → IsBefore (set_of self.now component).bits from cursor.old →
             IsNextNumber (set_of self.now component).bits from below result }
@@ -144,6 +144,11 @@ impl NumberedSets {
             from,
             below,
         )
+    }
+
+    /// How many words a component's set has past the first two.
+    pub fn words(&self, component: usize) -> usize {
+        further::of(&self.more, component).len()
     }
 
     /// How many numbers a component's set has.

@@ -1,8 +1,8 @@
 //! Tests that a component's values were asked, and what they said of them, where that pays.
-ghost use Rattle.std.specs.{Prelude.{◌≡◌}, Bool.{OnTrue}};
+ghost use Rattle.std.specs.{Prelude.{◌≡◌, ◌<◌}, Bool.{OnTrue}};
 ghost use Rattle.numbered_sets.specs.Passing.{reads_no_block};
 
-use crate::column::Column;
+use crate::column::{Column, NONE};
 use crate::numbered_entry::NumberedEntry;
 use crate::numbered_set::NumberedSet;
 use crate::seen_values::SeenValues;
@@ -28,6 +28,8 @@ pub struct JudgedTests {
     pub tests: Seq<JudgedTest>,
     /// For each load the number of the value that is asked for all that have it.
     pub samples: Column,
+    /// For each kind of test where one was found last.
+    pub hints: Column,
 }
 
 impl JudgedTest {
@@ -85,7 +87,8 @@ impl JudgedTest {
         Ok(())
     }
 
-    // Whether a value passes. What a task holds tells it mostly, so that of the values with one load the first alone is asked.
+    // Whether a value passes. What a task holds tells it mostly: of the values with one load, the first alone is asked where its
+    // answer is kept.
     fn judge(&self, seen: &SeenValues, samples: &mut Column, number: usize) -> Result<bool, Memory>
         requires given { number < length seen.now.values }
         requires judged { IsJudgedTest seen.now.values self.now }
@@ -147,6 +150,7 @@ impl JudgedTests {
         JudgedTests {
             tests: Seq::new(alloc),
             samples: Column::new(alloc),
+            hints: Column::new(alloc),
         }
     }
 
@@ -215,6 +219,36 @@ impl JudgedTests {
         ensures judged { AreJudgedTests seen.now.values self.new.tests }
         ensures place { IfOk result (HasTestAt test.now self.new.tests) }
     {
+        let kind = kind_of(test);
+        if let Some(place) = self.hinted(kind, test) {
+            return Ok(place);
+        }
+        let place = self.searched(alloc, seen, test)?;
+        if place < NONE as usize {
+            self.hints.widen(kind + 1)?;
+            self.hints.put(kind, place as u32);
+        }
+        Ok(place)
+    }
+
+    // the place where a test of a kind was found last, if it is this one
+    fn hinted(&self, kind: usize, test: &Test) -> Option<usize>
+        ensures { IfSome result (HasTestAt test.now self.now.tests) }
+    {
+        let place = self.hints.at(kind) as usize;
+        if place < self.tests.len() && are_same(&self.tests.at(place).test, test) {
+            return Some(place);
+        }
+        None
+    }
+
+    // the place of a test, which comes in last where it is new
+    #[inline(never)]
+    fn searched(&mut self, alloc: Global, seen: &SeenValues, test: &Test) -> Result<usize, Memory>
+        requires { AreJudgedTests seen.now.values self.old.tests }
+        ensures judged { AreJudgedTests seen.now.values self.new.tests }
+        ensures place { IfOk result (HasTestAt test.now self.new.tests) }
+    {
         if let Some(place) = self.place_of(test) {
             return Ok(place);
         }
@@ -265,6 +299,30 @@ fn are_same(one: &Test, other: &Test) -> bool
         (Test::WaitsAt(one), Test::WaitsAt(other)) => one.is(other),
         (Test::WaitsNotAt(one), Test::WaitsNotAt(other)) => one.is(other),
         _ => false,
+    }
+}
+
+// A number below 96, by which tests are looked for: that of the kind, with the last bits of a resource's number or with how many
+// resources there are. Nothing rests on it.
+fn kind_of(test: &Test) -> usize
+    ensures { result < 96 }
+{
+    match test {
+        Test::Suspended => 0,
+        Test::NotSuspended => 1,
+        Test::HoldsSome => 2,
+        Test::HoldsNothing => 3,
+        Test::NoFurther => 4,
+        Test::SomeFurther => 5,
+        Test::Full(_) => 6,
+        Test::Room(_) => 7,
+        Test::WaitsAt(_) => 8,
+        Test::WaitsNotAt(_) => 9,
+        Test::HoldsNoneOf(barred) => 64 + barred.0.count_ones() as usize % 32,
+        Test::Holds(resource) => 16 + resource.index() % 16,
+        Test::OnTop(resource) => 32 + resource.index() % 16,
+        Test::NotOnTop(resource) => 48 + resource.index() % 16,
+        Test::Is(_) | Test::IsNot(_) => 11,
     }
 }
 

@@ -44,6 +44,19 @@ impl NumberedSet {
         }
     }
 
+    /// The same with room for so many words past the first two.
+    pub fn with_room(alloc: Global, domain: Domain, words: usize) -> Result<NumberedSet, Memory>
+        ensures { IfOk result (λ set. set ≡ numbers domain 0) }
+    {
+        let more = Vec::with_capacity(alloc, words)?;
+        Ok(NumberedSet {
+            domain,
+            low: 0,
+            high: 0,
+            more,
+        })
+    }
+
     /// The same with room for as many numbers as another set has words for.
     pub fn beside(alloc: Global, other: &NumberedSet) -> Result<NumberedSet, Memory>
         ensures { IfOk result (λ set. set ≡ numbers other.now.domain 0) }

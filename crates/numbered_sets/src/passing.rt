@@ -93,7 +93,7 @@ impl SeenValues {
         match self.number_of(value) {
             None => Ok(alone),
             Some(number) => {
-                alone.insert(number)?;
+                alone.put(number)?;
                 Ok(alone)
             }
         }

@@ -89,6 +89,7 @@ fn source_at(first: BlockNo, count: u16, loads: &Loads, slot: usize) -> SourceVa
 }
 
 /// The slot of a value, if its load was seen and it is one of the domain's.
+#[inline(always)]
 pub fn slot_of(domain: Domain, loads: &Loads, value: &PartValue) -> Option<usize>
     ensures slot { IfSome result (IsSlotOf domain loads.now value.now) }
     ensures none { IfNone result ((s : ℕ) → IsSlot domain loads.now s → value_in domain loads.now s ≢ value.now) }

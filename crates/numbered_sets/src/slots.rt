@@ -79,6 +79,10 @@ impl Slots {
         ensures none { IfNone result (IsUnused self.now.used slot) }
     {
         let width = self.width as usize;
+        // events, alarms and many a task have but the first row
+        if slot < width {
+            return self.find_in(slot, 0);
+        }
         self.find_in(slot % width, slot / width)
     }
 

@@ -10,6 +10,7 @@ pub mod PassivePoints
 pub mod NumbersPassing
 pub mod KeptDomains
 pub mod SiftedSets
+pub mod BareRules
 pub mod ChangedSets
 pub mod SetValues
 pub mod GroupLaws

@@ -13,7 +13,7 @@ use Rattle.point_exits.specs.{Applying.{IsPassedSet, IsAloneIn}, Changing.{makin
 use Rattle.point_exits.proofs.NumbersPassing.{none_passes_bit}
 
 -- numbers of nothing have no value
-no_member : (vs : List PartValue) (x : Numbers) → x.bits ≡ 0 → (w : PartValue) → is_member (plain_set vs x) w ≡ false
+pub no_member : (vs : List PartValue) (x : Numbers) → x.bits ≡ 0 → (w : PartValue) → is_member (plain_set vs x) w ≡ false
 no_member vs x none w =
     member_of_plain vs x w ∙ ap (list_any (same_part w)) (values_with_none vs (has_number x) (λ n. ap (λ m. has_bit m n) none ∙ none_passes_bit n))
 

@@ -1,8 +1,7 @@
 -- What conditions leave of sets of numbers, and what a rule without changes makes of them.
-use Rattle.std.proofs.Common.{◌≡◌, ℕ, ◌+◌, ◌<◌, ◌≤◌, Bool, true, false, not, ◌||◌, ◌&&◌, List, [], ◌∷◌, ◌++◌, length, get_or, refl, sym, ap, ap₂, ◌∙◌, inl, inr, arith, IsTrue}
-use Rattle.std.specs.List.{list_any}
-use Rattle.std.proofs.{Math.ListN.{get_or-eq_default}, lemmas.{Bool.{cases_lt, cases_order, and_parts, or_left, eq-eqb, false≢true}, List.Folds.{list_any-append, list_any_at}}}
-use Rattle.osek_values.specs.Bits.{has_bit}
+use Rattle.std.proofs.Common.{◌≡◌, ℕ, ◌+◌, ◌<◌, ◌≤◌, Bool, true, false, not, ◌||◌, ◌&&◌, List, [], ◌∷◌, ◌++◌, length, get_or, set, refl, sym, ap, ap₂, subst, ◌∙◌, inl, inr, arith, get_or-set_other, IsTrue}
+use Rattle.std.specs.{Prelude.{◌==◌}, List.{list_any}}
+use Rattle.std.proofs.{Math.ListN.{get_or-eq_default}, lemmas.{Bool.{cases_eq, cases_lt, cases_order, and_parts, or_left, eq-eqb, false≢true}, List.{length-set, Folds.{list_any-append, list_any_at}}}}
 use Rattle.abstract_state.specs.{declared.{value.PartValue.{PartValue}, table.ValueSet.{ValueSet}}, ValueOrder.{same_part}, Tables.{is_member}}
 use Rattle.abstract_state.proofs.OrderLaws.{part_right}
 use Rattle.flow_model.specs.declared.{test.{Test.{Test}, Condition.{Condition}}, rule.Rule.{Rule}}
@@ -11,11 +10,11 @@ use Rattle.flow_model.specs.{Tests.{passes, is_failed, PassesAt}, Rules.{HasNone
 use Rattle.numbered_sets.specs.{declared.numbered_entry.NumberedEntry.{NumberedEntry}, Numbers.{Numbers, has_number}}
 use Rattle.numbered_sets.specs.{NumberedEntries.{no_set, numbers_at, number_domains, AreFilled, HasEmptySet}, Pools.{Values, values_at, IsNumberOf}}
 use Rattle.numbered_sets.specs.Views.{values_with, plain_set, plain_entry, AreNumbersOf}
-use Rattle.numbered_sets.proofs.{PlainLaws.{ascending_in_order, member_of_plain, values_with_none, plain_set_at, length_plain}, ViewLaws.{false_unless}}
-use Rattle.numbered_sets.proofs.{KnownNumbers.{found, no_bit_of_none}, NumberingLaws.{longer_itself}, SiftLaws.{some_value}}
+use Rattle.numbered_sets.proofs.{PlainLaws.{ascending_in_order, member_of_plain, plain_set_at, length_plain}, ViewLaws.{false_unless}}
+use Rattle.numbered_sets.proofs.{KnownNumbers.{found}, NumberingLaws.{longer_itself}, SiftLaws.{some_value}}
 use Rattle.point_exits.proofs.Passing.{none_fails, each_passes}
 use Rattle.point_exits.specs.{Passing.{AreTaken}, Applying.{IsPassedSet}, Changing.{up_to, AreAllPassed}, Sifting.{AreSifted, LeavesNone}}
-use Rattle.point_exits.proofs.NumbersPassing.{domains_alike}
+use Rattle.point_exits.proofs.{NumbersPassing.{domains_alike}, SetValues.{no_member, some_left}}
 
 both_pass : (a p q : Bool) → ((a && not p) && not q) ≡ (a && not (p || q))
 both_pass true true q = refl
@@ -94,13 +93,11 @@ pub none_left : (pool : List Values) (xs : List Condition) (entry new : Numbered
 none_left pool xs entry new s empty =
     let c = empty.component in
     let less : empty.component < length entry.sets = (let there = empty.known in omega (arith, there, s.as_many)) in
-    let no_bit : (n : ℕ) → has_number (numbers_at new empty.component) n ≡ false = (λ n. ap (λ m. has_bit m n) empty.none ∙ false_unless (has_bit 0 n) ⊥ (no_bit_of_none n) (λ no. no)) in
     record {
       component = empty.component;
       known = less;
       none = λ v m.
-          (let none : is_member (plain_set (values_at pool c) (numbers_at new c)) v ≡ false =
-          member_of_plain (values_at pool c) (numbers_at new c) v ∙ ap (list_any (same_part v)) (values_with_none (values_at pool c) (has_number (numbers_at new c)) no_bit) in
+          (let none : is_member (plain_set (values_at pool c) (numbers_at new c)) v ≡ false = no_member (values_at pool c) (numbers_at new c) empty.none v in
           still_fails (is_member (plain_set (values_at pool c) (numbers_at entry c)) v) (list_any (is_failed c v) xs) m (sym ((s.each c less).values v) ∙ none));
     }
 
@@ -174,6 +171,31 @@ none_taken pool rule entry h = record {
       let none : list_any (is_failed h.component v) rule.conditions ≡ false = none_fails rule.conditions h.component v p in
       absurd (cc));
 }
+
+-- a rule takes nothing where a set is empty
+pub empty_takes_none : (pool : List Values) (rule : Rule) (entry : NumberedEntry) → HasEmptySet entry → HasNone rule (plain_entry pool entry)
+empty_takes_none pool rule entry empty =
+    let c = empty.component in
+    none_taken pool rule entry (record {
+      component = c;
+      known = empty.known;
+      none = λ v m. absurd (false≢true (sym (no_member (values_at pool c) (numbers_at entry c) empty.none v) ∙ m));
+    })
+
+-- an entry keeps a number of each component, where one set alone is changed and has one
+pub filled_still : (entry new : NumberedEntry) (c : ℕ) → new.sets ≡ set entry.sets c (numbers_at new c) → (is_empty : Bool) → is_empty ≡ ((numbers_at new c).bits == 0)
+    → not is_empty ≡ true → AreFilled entry → AreFilled new
+filled_still entry new c is b at left h =
+    let some : 0 < (numbers_at new c).bits = some_left (numbers_at new c) (sym at ∙ not_failed b left) in
+    record {
+      each = λ d lt. elim (cases_eq d c) [
+        | inl same ↦ subst (λ (i : ℕ). 0 < (numbers_at new i).bits) (sym same) some
+        | inr differ ↦
+            (let long = ap (λ (xs : List Numbers). length xs) is ∙ length-set entry.sets c (numbers_at new c) in
+            let as_it_was : numbers_at new d ≡ numbers_at entry d = ap (λ (xs : List Numbers). get_or xs d no_set) is ∙ get_or-set_other entry.sets c d (numbers_at new c) no_set differ in
+            subst (λ (x : Numbers). 0 < x.bits) (sym as_it_was) (h.each d (omega (arith, lt, long))))
+      ];
+    }
 
 -- what conditions leave has the domains that were there
 pub sifted_domains : (pool : List Values) (xs : List Condition) (entry new : NumberedEntry) → AreSifted pool xs entry new → number_domains new ≡ number_domains entry

@@ -3,7 +3,7 @@ use Rattle.std.specs.Prelude.{◌≡◌, ◌⊎◌, ℕ, ◌<◌, List, length, 
 use Rattle.osek_standard.specs.declared.{app.App.{App}, point.Point.{Point}}
 use Rattle.abstract_state.specs.{declared.{value.PartValue.{PartValue}, table.PlainEntry.{PlainEntry}}, Domains.{IsWithin}, Tables.{set_at, is_member}}
 use Rattle.flow_model.specs.declared.{case.EffectCase.{EffectCase}, test.Condition.{Condition}}
-use Rattle.numbered_sets.specs.{declared.numbered_entry.NumberedEntry.{NumberedEntry}, Numbers.{Numbers}, NumberedEntries.{numbers_at}}
+use Rattle.numbered_sets.specs.{declared.numbered_entry.NumberedEntry.{NumberedEntry}, Numbers.{Numbers}, NumberedEntries.{numbers_at, AreFilled}}
 use Rattle.numbered_sets.specs.{Passing.{IsSifted}, Pools.{Values, values_at}, Views.{plain_entry, AreNumbersOf}}
 use Rattle.flow_model.specs.Effects.{HaveKnownStays}
 use Rattle.flow_effects.specs.{declared.effects.{Alternatives.{Alternatives}, Effects.{Effects}}, Alternatives.{alternative_cases, all_cases, AreApart}}
@@ -14,10 +14,11 @@ use Rattle.point_exits.specs.{declared.group.NumberEnd.{NumberEnd}, Applying.{Ke
 abbrev pub HasOwnValues : PlainEntry → Type 0
 HasOwnValues entry = (c : ℕ) (v : PartValue) → c < length entry.sets → IsTrue (is_member (set_at entry c) v) → IsWithin (set_at entry c).domain v
 
--- Each of these cases, which differ in one condition alone, can be applied to numbers: they are those of values of their own
--- domains, and so is what the case makes of these.
+-- Each of these cases, which differ in one condition alone, can be applied to numbers: each component has one, they are those of
+-- values of their own domains, and so is what the case makes of these.
 pub record MayApplyEach (app : App) (alternatives : Alternatives) (pool : List Values) (entry : NumberedEntry) : Type 0 where
   pub numbers : AreNumbersOf pool entry
+  pub filled : AreFilled entry
   pub own : HasOwnValues (plain_entry pool entry)
   pub apart : AreApart app alternatives
   pub kept : (x : EffectCase) → Contains (alternative_cases alternatives) x → KeepsDomains (effect_rule x) (plain_entry pool entry)
@@ -25,6 +26,7 @@ pub record MayApplyEach (app : App) (alternatives : Alternatives) (pool : List V
 -- All cases of these effects can be applied to numbers.
 pub record MayTakeAll (app : App) (effects : Effects) (pool : List Values) (entry : NumberedEntry) : Type 0 where
   pub numbers : AreNumbersOf pool entry
+  pub filled : AreFilled entry
   pub own : HasOwnValues (plain_entry pool entry)
   pub stays : HaveKnownStays app (all_cases effects)
   pub apart : IfSome effects.alternatives (AreApart app)

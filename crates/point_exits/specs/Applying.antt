@@ -4,7 +4,7 @@ use Rattle.osek_standard.specs.declared.point.Point.TheVariants as point
 use Rattle.abstract_state.specs.{declared.{value.{Domain.{Domain}, PartValue.{PartValue}}, table.{ValueSet.{ValueSet}, PlainEntry.{PlainEntry}}}, Domains.{IsWithin}}
 use Rattle.abstract_state.specs.Tables.{set_at, is_member}
 use Rattle.flow_model.specs.{declared.{change.Change.{Change}, rule.Rule.{Rule}, test.Condition.{Condition}}, Tests.{PassesAt, value_after}}
-use Rattle.numbered_sets.specs.{declared.numbered_entry.NumberedEntry.{NumberedEntry}, Numbers.{Numbers, numbers, has_number, with_number}}
+use Rattle.numbered_sets.specs.{declared.numbered_entry.NumberedEntry.{NumberedEntry}, Numbers.{Numbers, numbers, has_number, with_number}, NumberedEntries.{AreFilled}}
 use Rattle.numbered_sets.specs.{Pools.{Values, values_at, domain_at, IsNumberOf, IsLonger}, Views.{plain_set, plain_entry, AreNumbersOf}}
 use Rattle.point_exits.specs.Passing.{ArePassed, AreTaken}
 
@@ -20,9 +20,11 @@ pub record KeepsDomain (rule : Rule) (c : ℕ) (set : ValueSet) : Type 0 where
 pub record KeepsDomains (rule : Rule) (entry : PlainEntry) : Type 0 where
   pub sets : AreTaken rule entry → (c : ℕ) → c < length entry.sets → KeepsDomain rule c (set_at entry c)
 
--- A rule can be applied to numbers: they are those of values of the pool, and what it makes of these lies in their domains.
+-- A rule can be applied to numbers: they are those of values of the pool, each component has one, and what the rule makes of
+-- these values lies in their domains.
 pub record MayApply (rule : Rule) (pool : List Values) (entry : NumberedEntry) : Type 0 where
   pub numbers : AreNumbersOf pool entry
+  pub filled : AreFilled entry
   pub kept : KeepsDomains rule (plain_entry pool entry)
 
 -- numbers of what the rule makes of the values of a list that pass, in a pool that grew

@@ -82,7 +82,7 @@ fn passing_ends(
     ensures same { pool.new ≡ pool.old }
     ensures ends { IfOk result (ArePassingEnds pool.old before.now conditions.now target) }
 {
-    let mut ends = Seq::of(Vec::with_capacity(alloc, conditions.len())?);
+    let mut ends = Vec::with_capacity(alloc, conditions.len())?;
     for condition in conditions.as_slice() {
         let component = condition.component.index();
         let numbers = pool.passing(alloc, component, &condition.test, before)?;
@@ -94,5 +94,5 @@ fn passing_ends(
             })?;
         }
     }
-    Ok(ends)
+    Ok(Seq::of(ends))
 }

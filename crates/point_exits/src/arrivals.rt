@@ -10,7 +10,7 @@ ghost use Rattle.point_exits.specs.{Applying.{MayApply}, Groups.{AreKnownGroups}
 ghost use Rattle.point_exits.specs.Leaving.{AddsRoutines, IsAmongFirst, AreSharedEnds, is_bare as is_bare_of};
 
 use crate::bare_rule::BareRule;
-use crate::changes::apply;
+use crate::changes::applied;
 use crate::group::{Ends, ExitGroup, NumberEnd};
 use crate::numbering::Numbering;
 use abstract_state::Point;
@@ -203,7 +203,7 @@ fn push_arrival(
     ensures added { OnOk result ((app : App) (p : Point) → IsArrivalRule app p rule.now → number_domains entry.now ≡ domains_of app →
         AddsRoutines app p (plain_entry pool.old entry.now) (λ (other : Rule). other ≡ rule.now) pool.old groups.old.items pool.new groups.new.items) }
 {
-    let Some(after) = apply(alloc, rule, pool, entry)? else {
+    let Some(after) = applied(alloc, &rule.conditions, &rule.changes, pool, entry)? else {
         return Ok(());
     };
     let mut targets = Seq::new(alloc);

@@ -31,10 +31,13 @@ pub fn apply(
     ensures some { IfOk result (λ new. IfSome new (λ new. Applies rule.now (plain_entry pool.old entry.now) (plain_entry pool.new new))) }
     ensures none { IfOk result (λ new. IfNone new (HasNone rule.now (plain_entry pool.old entry.now))) }
 {
+    if !entry.is_filled() {
+        return Ok(None);
+    }
     applied(alloc, &rule.conditions, &rule.changes, pool, entry)
 }
 
-/// What changes make of the values of an entry that pass conditions, as a rule with these does.
+/// What changes make of the values of an entry that pass conditions, as a rule with these does. Each set has a value before.
 pub fn applied(
     alloc: Global,
     conditions: &Seq<Condition>,
@@ -175,14 +178,15 @@ fn is_named(changes: &[Change], place: usize, component: usize) -> bool
 }
 
 /// Leaves out the numbers of the values that don't pass each condition on their component, as long as each set that a
-/// condition names has one left. Tells whether each set has. The pool keeps which values pass.
+/// condition names has one left. Tells whether each set has, as it had before. The pool keeps which values pass.
 pub fn sift(
     alloc: Global,
     conditions: &[Condition],
     pool: &mut Pool,
     entry: &mut NumberedEntry,
 ) -> Result<bool, Memory>
-    requires { length entry.old.sets ≤ length pool.old }
+    requires known { length entry.old.sets ≤ length pool.old }
+    requires filled { AreFilled entry.old }
     ensures same { pool.new ≡ pool.old }
     ensures alike { number_domains entry.new ≡ number_domains entry.old }
     ensures sifted { IfOk result (λ is_filled. OnTrue is_filled (AreSifted pool.old conditions.now entry.old entry.new)) }
@@ -194,7 +198,7 @@ pub fn sift(
             return Ok(false);
         }
     }
-    Ok(entry.is_filled())
+    Ok(true)
 }
 
 // leaves out the numbers of the values of a condition's component that don't pass it, and tells whether there is one left
@@ -208,6 +212,7 @@ fn keep_passing(
     ensures same { pool.new ≡ pool.old }
     ensures alike { number_domains entry.new ≡ number_domains entry.old }
     ensures sifted { OnOk result (AreSifted pool.old (condition.now ∷ []) entry.old entry.new) }
+    ensures filled { IfOk result (λ is_left. OnTrue is_left (AreFilled entry.old → AreFilled entry.new)) }
     ensures none { IfOk result (λ is_left. OnFalse is_left (HasEmptySet entry.new)) }
 {
     let component = condition.component.index();

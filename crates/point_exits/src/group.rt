@@ -47,7 +47,12 @@ struct BlockEnd {
     domain: Domain,
     target: Point,
     row: usize,
+    // so many words its numbers may need past the first two
+    words: usize,
 }
+
+// for so many ends room is made at once
+const FEW: usize = 12;
 
 /// One point, with all values.
 pub fn at(alloc: Global, point: Point) -> Result<Ends, Memory>
@@ -120,8 +125,10 @@ pub fn at_blocks(
         Domain::Event | Domain::Alarm => (0, 0),
     };
     let mut places = Vec::from_elem(alloc, 0, blocks)?;
-    let mut ends = Seq::new(alloc);
-    let mut number = entry.next(component, 0, count);
+    let mut ends = Vec::with_capacity(alloc, blocks.min(FEW))?;
+    let words = entry.sets.words(component);
+    let mut cursor = entry.sets.cursor(component, 0);
+    let mut number = entry.sets.advance(component, &mut cursor, count);
     while number < count {
         let block = pool.block(component, number);
         let end = BlockEnd {
@@ -129,11 +136,12 @@ pub fn at_blocks(
             domain,
             target: runner.at(block),
             row: block.index().saturating_sub(first),
+            words,
         };
         put_number(alloc, end, number, places.as_mut_slice(), &mut ends)?;
-        number = entry.next(component, number + 1, count);
+        number = entry.sets.advance(component, &mut cursor, count);
     }
-    Ok(Ends::With(ends))
+    Ok(Ends::With(Seq::of(ends)))
 }
 
 // puts a number to those with which a step ends at a point
@@ -142,35 +150,35 @@ fn put_number(
     end: BlockEnd,
     number: usize,
     places: &mut [usize],
-    ends: &mut Seq<NumberEnd>,
+    ends: &mut Vec<NumberEnd>,
 ) -> Result<(), Memory>
-    ensures some { OnOk result (HaveNumbersOf end.component end.domain ends.old → HaveNumbersOf end.component end.domain ends.new) }
-    ensures put { OnOk result (IsNumberPut end.target number ends.old ends.new) }
+    ensures some { OnOk result (HaveNumbersOf end.component end.domain ends.old.items → HaveNumbersOf end.component end.domain ends.new.items) }
+    ensures put { OnOk result (IsNumberPut end.target number ends.old.items ends.new.items) }
 {
     let target = end.target;
-    let Some(place) = end_at(places, end.row, ends, target) else {
+    let Some(place) = end_at(places, end.row, ends.as_slice(), target) else {
         if let Some(place) = places.get_mut(end.row) {
             *place = ends.len();
         }
-        let mut numbers = NumberedSet::new(alloc, end.domain);
+        let mut numbers = NumberedSet::with_room(alloc, end.domain, end.words)?;
         numbers.put(number)?;
-        return ends.push(NumberEnd {
+        ends.push(NumberEnd {
             component: end.component,
             numbers,
             target,
-        });
+        })?;
+        return Ok(());
     };
-    let end = ends.at_mut(place);
-    end.numbers.put(number)?;
+    ends[place].numbers.put(number)?;
     Ok(())
 }
 
 // The place of the end at a point, by the row of its block. What stands in `places` is looked up, so nothing rests on it.
-fn end_at(places: &[usize], row: usize, ends: &Seq<NumberEnd>, target: Point) -> Option<usize>
+fn end_at(places: &[usize], row: usize, ends: &[NumberEnd], target: Point) -> Option<usize>
     ensures { IfSome result (λ place. (place < length ends.now) × ((none : NumberEnd) → (slice_index_or ends.now place none).target ≡ target)) }
 {
     let place = *places.get(row)?;
-    if place < ends.len() && ends.at(place).target == target {
+    if place < ends.len() && ends[place].target == target {
         return Some(place);
     }
     None

@@ -64,8 +64,14 @@ invariant_of-ruled c =
     c.in_ok-numbers.ensures.numbers.domains ∙ c.in_ok-numbers.ensures.pool.domains ∙ ap pool_domains c.in_ok-grown.ensures ∙ sym c.requires.numbers.domains ∙ c.requires.domains in
     record { alike = alike; from_alike = ap domains (sym c.in_ok-numbers.ensures.plain) ∙ same_domains c.numbered.new.pool 0 c.in_ok-numbers.numbers.sets ∙ alike }
 
-pub add_effect-requires-clause-effect : goal.add_effect-requires-clause-effect
-add_effect-requires-clause-effect c =
+pub add_effect-requires-clause-numbers : goal.add_effect-requires-clause-numbers
+add_effect-requires-clause-numbers c =
+    let grown = c.numbered.new.pool in
+    let longer : IsLonger grown c.loop-effect.numbering.pool = subst (λ (q : List Values). IsLonger q c.loop-effect.numbering.pool) c.in_ok-numbering.ensures.pool c.loop-effect.invariant.longer in
+    still_known grown c.loop-effect.numbering.pool c.in_ok-numbers.numbers longer c.in_ok-numbers.ensures.numbers
+
+pub add_effect-requires-clause-domains : goal.add_effect-requires-clause-domains
+add_effect-requires-clause-domains c =
     let app = c.args.app.now in
     let p = c.args.point in
     let pool = c.args.pool.now in
@@ -81,11 +87,8 @@ add_effect-requires-clause-effect c =
     let among : Contains c.as_slice-effect-items.result.now x = (c.loop-effect.effect-index, c.loop-effect-test.true, sym c.effect-item.is) in
     let listed : Contains c.in_ok-effects.effects x = subst (λ (xs : List EffectCase). Contains xs x) c.as_slice-effect-items.ensures among in
     let longer : IsLonger grown c.loop-effect.numbering.pool = subst (λ (q : List Values). IsLonger q c.loop-effect.numbering.pool) c.in_ok-numbering.ensures.pool c.loop-effect.invariant.longer in
-    record {
-      numbers = still_known grown c.loop-effect.numbering.pool numbers longer c.in_ok-numbers.ensures.numbers;
-      kept = subst (KeepsDomains (effect_rule x)) (sym (same_view grown c.loop-effect.numbering.pool numbers longer c.in_ok-numbers.ensures.numbers))
-          (effect_keeps_domains app p (plain_entry grown numbers) c.in_ok-effects.effects x (same_domains grown 0 numbers.sets ∙ alike) listed (c.in_ok-effects.ensures.exact (plain_entry grown numbers) (same_domains grown 0 numbers.sets ∙ alike) allowed));
-    }
+    subst (KeepsDomains (effect_rule x)) (sym (same_view grown c.loop-effect.numbering.pool numbers longer c.in_ok-numbers.ensures.numbers))
+    (effect_keeps_domains app p (plain_entry grown numbers) c.in_ok-effects.effects x (same_domains grown 0 numbers.sets ∙ alike) listed (c.in_ok-effects.ensures.exact (plain_entry grown numbers) (same_domains grown 0 numbers.sets ∙ alike) allowed))
 
 pub loop-effect-init : goal.loop-effect-init
 loop-effect-init c = record {

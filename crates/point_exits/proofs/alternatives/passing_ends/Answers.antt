@@ -11,7 +11,7 @@ use Rattle.point_exits.proofs.alternatives.passing_ends.Goals.{then-not-is_empty
 pub loop-condition-init : goal.loop-condition-init
 loop-condition-init c = record {
   pool = refl;
-  ends = no_condition c.args.pool.now c.args.before.now c.args.target c.as_slice-condition-items.result.now c.of-ends.result (c.of-ends.ensures ∙ c.in_ok-with_capacity.ensures.items);
+  ends = no_condition c.args.pool.now c.args.before.now c.args.target c.as_slice-condition-items.result.now c.in_ok-ends.ends.items c.in_ok-ends.ensures.items;
 }
 
 pub passing-requires-clause-known : goal.passing-requires-clause-known
@@ -53,8 +53,8 @@ loop-condition-preserved c =
       pool = c.passing.ensures.same ∙ inv.pool;
       ends = elim c.if-not-is_empty.branch [
         | then-not-is_empty+in_ok-push w ↦
-            end_more pool entry p items i y c.loop-condition-test.true (sym c.condition-item.is) c.loop-condition.ends inv.ends
-            (record { component = k; numbers = n; target = p }) c.if-not-is_empty.ends (w.ends-is ∙ w.in_ok-push.ensures.ok)
+            end_more pool entry p items i y c.loop-condition-test.true (sym c.condition-item.is) c.loop-condition.ends.items inv.ends
+            (record { component = k; numbers = n; target = p }) c.if-not-is_empty.ends.items ((λ j. (w.ends-is j).items) ∙ w.in_ok-push.ensures.items)
             (record {
               component = c.index-component.ensures;
               target = refl;
@@ -62,7 +62,7 @@ loop-condition-preserved c =
               some = some_left n (sym c.is_empty.ensures ∙ w.if-not-is_empty.true);
             })
         | else-not-is_empty w ↦
-            no_end pool entry p items i y c.loop-condition-test.true (sym c.condition-item.is) c.loop-condition.ends inv.ends c.if-not-is_empty.ends w.ends-is
+            no_end pool entry p items i y c.loop-condition-test.true (sym c.condition-item.is) c.loop-condition.ends.items inv.ends c.if-not-is_empty.ends.items (λ j. (w.ends-is j).items)
             (record { numbers = n; sifted = sifted; none = eqb-true n.bits 0 (sym c.is_empty.ensures ∙ w.if-not-is_empty.false) })
       ];
     }
@@ -74,6 +74,7 @@ pub returns-clause-ends : goal.returns-clause-ends
 returns-clause-ends c =
     let items = c.as_slice-condition-items.result.now in
     let past : length c.args.conditions.now ≤ c.loop-condition.condition-index = (let e = ap (λ (ys : List Condition). length ys) c.as_slice-condition-items.ensures in omega (arith, e, c.loop-condition-test.false)) in
-    all_asked c.args.pool.now c.args.before.now c.args.target c.args.conditions.now c.loop-condition.condition-index c.loop-condition.ends past
-    (subst (λ (ys : List Condition). ArePassingEnds c.args.pool.now c.args.before.now (take c.loop-condition.condition-index ys) c.args.target c.loop-condition.ends)
-    c.as_slice-condition-items.ensures c.loop-condition.invariant.ends)
+    subst (ArePassingEnds c.args.pool.now c.args.before.now c.args.conditions.now c.args.target) (sym c.of.ensures)
+    (all_asked c.args.pool.now c.args.before.now c.args.target c.args.conditions.now c.loop-condition.condition-index c.loop-condition.ends.items past
+    (subst (λ (ys : List Condition). ArePassingEnds c.args.pool.now c.args.before.now (take c.loop-condition.condition-index ys) c.args.target c.loop-condition.ends.items)
+    c.as_slice-condition-items.ensures c.loop-condition.invariant.ends))

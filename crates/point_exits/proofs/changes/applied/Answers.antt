@@ -1,6 +1,6 @@
 use Rattle.std.proofs.{Common.{length, refl, sym, subst, List, ◌∙◌, arith}, lemmas.Bool.{OnTrue_at, OnFalse_at}}
 use Rattle.flow_model.specs.declared.test.Condition.{Condition}
-use Rattle.numbered_sets.specs.{declared.numbered_entry.NumberedEntry.{NumberedEntry}, Pools.{Values}}
+use Rattle.numbered_sets.specs.{declared.numbered_entry.NumberedEntry.{NumberedEntry}, NumberedEntries.{AreFilled}, Pools.{Values}}
 use Rattle.numbered_sets.proofs.NumberingLaws.{longer_onward}
 use Rattle.point_exits.specs.{Applying.{bare_rule}, Changing.{up_to, AreInOrder, AreAllPassed}, Sifting.{AreSifted, LeavesNone}}
 use Rattle.point_exits.proofs.{NumbersPassing.{made_applies}, SiftedSets.{all_sifted, sifted_domains, taken_of_filled, none_taken}, ChangedSets.{stays_within, all_changes}}
@@ -13,6 +13,9 @@ returns-then-not-may_pass-clause-none c =
     let none : LeavesNone pool rule.conditions c.args.entry.now =
     subst (λ (xs : List Condition). LeavesNone pool xs c.args.entry.now) c.as_slice.ensures (OnFalse_at c.if-not-may_pass.true c.may_pass.ensures) in
     none_taken pool rule c.args.entry.now none
+
+pub sift-requires-clause-filled : goal.sift-requires-clause-filled
+sift-requires-clause-filled c = subst AreFilled (sym c.in_ok-made.ensures) c.requires.filled
 
 pub returns-then-not-branch-clause-none : goal.returns-then-not-branch-clause-none
 returns-then-not-branch-clause-none c =

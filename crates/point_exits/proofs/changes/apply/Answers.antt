@@ -1,35 +1,24 @@
 use Rattle.std.proofs.Common.{IfSome, IfNone, Some, None}
 use Rattle.std.specs.declared.option.Option.{Option}
-use Rattle.std.proofs.lemmas.{Option.{IfSome_then}, Result.{IfOk-weaker}}
+use Rattle.std.proofs.lemmas.{Bool.{OnTrue_at, OnFalse_at}, Option.{IfSome_then}, Result.{IfOk-weaker}}
 use Rattle.abstract_state.specs.declared.table.PlainEntry.{PlainEntry}
 use Rattle.flow_model.specs.{declared.rule.Rule.{Rule}, Rules.{Applies, HasNone}}
 use Rattle.numbered_sets.specs.{declared.numbered_entry.NumberedEntry.{NumberedEntry}, Views.{plain_entry}}
-use Rattle.point_exits.specs.Applying.{KeepsDomains, bare_rule}
+use Rattle.point_exits.specs.Applying.{bare_rule}
+use Rattle.point_exits.proofs.{BareRules.{bare_applies, bare_none, may_apply_bare}, SiftedSets.{empty_takes_none}}
 use Rattle.point_exits.proofs.changes.apply.Goals as goal
 
--- A rule makes of values what its conditions and changes say alone.
-module _ (rule : Rule) (entry : PlainEntry) where
-  abbrev bare : Rule
-  bare = bare_rule rule.conditions rule.changes
+none_left : (rule : Rule) (entry : PlainEntry) (new : Option NumberedEntry) → IfNone new (HasNone (bare_rule rule.conditions rule.changes) entry) → IfNone new (HasNone rule entry)
+none_left rule entry None h = bare_none rule entry h
+none_left rule entry (Some x) h = h
 
-  bare_applies : (new : PlainEntry) → Applies bare entry new → Applies rule entry new
-  bare_applies new h = record {
-    domains = h.domains;
-    ascending = h.ascending;
-    from = λ c v lt m. (let x = h.from c v lt m in record { taken = record { was = x.taken.was; there = x.taken.there; passes = x.taken.passes }; becomes = x.becomes });
-    to = h.to;
-    filled = λ c lt. (let t = h.filled c lt in record { was = t.was; there = t.there; passes = t.passes });
-  }
-
-  keeps_bare : KeepsDomains rule entry → KeepsDomains bare entry
-  keeps_bare h = record { sets = λ taken c lt. (let k = h.sets (λ d below. (let t = taken d below in record { was = t.was; there = t.there; passes = t.passes })) c lt in record { each = k.each }) }
-
-  none_left : (new : Option NumberedEntry) → IfNone new (HasNone bare entry) → IfNone new (HasNone rule entry)
-  none_left None h = record { component = h.component; known = h.known; none = h.none }
-  none_left (Some x) h = h
+pub returns-then-not-is_filled-clause-none : goal.returns-then-not-is_filled-clause-none
+returns-then-not-is_filled-clause-none c = empty_takes_none c.args.pool.now c.args.rule.now c.args.entry.now (OnFalse_at c.if-not-is_filled.true c.is_filled.ensures.none)
 
 pub applied-requires : goal.applied-requires
-applied-requires c = record { numbers = c.requires.numbers; kept = keeps_bare c.args.rule.now (plain_entry c.args.pool.now c.args.entry.now) c.requires.domains }
+applied-requires c =
+    may_apply_bare c.args.rule.now c.args.pool.now c.args.entry.now
+    (record { numbers = c.requires.numbers; filled = OnTrue_at c.if-not-is_filled.false c.is_filled.ensures.filled; kept = c.requires.domains })
 
 pub returns-clause-some : goal.returns-clause-some
 returns-clause-some c =

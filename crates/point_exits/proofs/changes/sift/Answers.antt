@@ -1,4 +1,4 @@
-use Rattle.std.proofs.{Common.{◌≡◌, ◌<◌, ◌+◌, ℕ, ◌++◌, ◌∷◌, [], List, length, get_or, take, drop, sym, ap, subst, ◌∙◌, arith}, lemmas.Bool.{OnFalse_at, OnFalse_from}}
+use Rattle.std.proofs.{Common.{◌≡◌, ◌<◌, ◌+◌, ℕ, ◌++◌, ◌∷◌, [], List, length, get_or, take, drop, sym, ap, subst, ◌∙◌, arith}, lemmas.Bool.{OnTrue_at, OnFalse_at}}
 use Rattle.std.proofs.lemmas.List.{take_more, take_all, take-append-drop}
 use Rattle.flow_model.specs.declared.test.Condition.{Condition}
 use Rattle.numbered_sets.specs.{declared.numbered_entry.NumberedEntry.{NumberedEntry}, Pools.{Values}}
@@ -19,8 +19,8 @@ returns-then-not-branch-clause-none c =
     let k = c.loop-condition.condition-index in
     let x = c.condition-item.result in
     let sifted : AreSifted pool (x ∷ []) c.loop-condition.entry c.keep_passing.new.entry =
-    subst (λ (p : List Values). AreSifted p (x ∷ []) c.loop-condition.entry c.keep_passing.new.entry) c.loop-condition.invariant.2 c.in_ok-keep_passing.ensures.sifted in
-    let so_far = more pool all k x c.args.entry.now c.loop-condition.entry c.keep_passing.new.entry c.loop-condition-test.true (sym c.condition-item.is) c.loop-condition.invariant.0 sifted in
+    subst (λ (p : List Values). AreSifted p (x ∷ []) c.loop-condition.entry c.keep_passing.new.entry) c.loop-condition.invariant.pool c.in_ok-keep_passing.ensures.sifted in
+    let so_far = more pool all k x c.args.entry.now c.loop-condition.entry c.keep_passing.new.entry c.loop-condition-test.true (sym c.condition-item.is) c.loop-condition.invariant.sifted sifted in
     subst (λ (xs : List Condition). LeavesNone pool xs c.args.entry.now) (take-append-drop (k + 1) all)
     (leaves_more pool (take (k + 1) all) (drop (k + 1) all) c.args.entry.now (none_left pool (take (k + 1) all) c.args.entry.now c.keep_passing.new.entry so_far
     (OnFalse_at c.if-not-branch.true c.in_ok-keep_passing.ensures.none)))
@@ -31,17 +31,18 @@ loop-condition-preserved c =
     let all = c.args.conditions.now in
     let k = c.loop-condition.condition-index in
     let x = c.condition-item.result in
+    let inv = c.loop-condition.invariant in
     let sifted : AreSifted pool (x ∷ []) c.loop-condition.entry c.keep_passing.new.entry =
-    subst (λ (p : List Values). AreSifted p (x ∷ []) c.loop-condition.entry c.keep_passing.new.entry) c.loop-condition.invariant.2 c.in_ok-keep_passing.ensures.sifted in (
-      more pool all k x c.args.entry.now c.loop-condition.entry c.keep_passing.new.entry c.loop-condition-test.true (sym c.condition-item.is) c.loop-condition.invariant.0 sifted,
-      c.in_ok-keep_passing.ensures.alike ∙ c.loop-condition.invariant.1,
-      c.keep_passing.ensures.same ∙ c.loop-condition.invariant.2,
-    )
+    subst (λ (p : List Values). AreSifted p (x ∷ []) c.loop-condition.entry c.keep_passing.new.entry) inv.pool c.in_ok-keep_passing.ensures.sifted in
+    record {
+      sifted = more pool all k x c.args.entry.now c.loop-condition.entry c.keep_passing.new.entry c.loop-condition-test.true (sym c.condition-item.is) inv.sifted sifted;
+      alike = c.in_ok-keep_passing.ensures.alike ∙ inv.alike;
+      pool = c.keep_passing.ensures.same ∙ inv.pool;
+      filled = OnTrue_at c.if-not-branch.false c.in_ok-keep_passing.ensures.filled inv.filled;
+    }
 
-pub returns-clause-none : goal.returns-clause-none
-returns-clause-none c =
-    let pool = c.args.pool.now in
+pub returns-clause-sifted : goal.returns-clause-sifted
+returns-clause-sifted c =
     let all = c.args.conditions.now in
-    let sifted : AreSifted pool all c.args.entry.now c.loop-condition.entry =
-    subst (λ (xs : List Condition). AreSifted pool xs c.args.entry.now c.loop-condition.entry) (take_all c.loop-condition.condition-index all (omega (arith, c.loop-condition-test.false))) c.loop-condition.invariant.0 in
-    OnFalse_from c.is_filled.result (LeavesNone pool all c.args.entry.now) (λ e. none_left pool all c.args.entry.now c.loop-condition.entry sifted (OnFalse_at e c.is_filled.ensures.none))
+    subst (λ (xs : List Condition). AreSifted c.args.pool.now xs c.args.entry.now c.loop-condition.entry)
+    (take_all c.loop-condition.condition-index all (omega (arith, c.loop-condition-test.false))) c.loop-condition.invariant.sifted

@@ -1,6 +1,6 @@
-use Rattle.std.proofs.Common.{◌≡◌, ◌++◌, [], ◌∙◌, List, length, map, flat_map, sym, ap, subst}
+use Rattle.std.proofs.Common.{◌≡◌, ◌++◌, [], ◌∙◌, List, length, map, flat_map, refl, sym, ap, subst}
 use Rattle.std.specs.{Prelude.{Contains, IfSome, IfNone}, declared.option.Option.{Option}}
-use Rattle.std.proofs.lemmas.Result.{on_ok_weaker}
+use Rattle.std.proofs.lemmas.{Bool.{OnTrue_at, OnFalse_at}, Result.{on_ok_weaker}}
 use Rattle.osek_standard.specs.declared.app.App.{App}
 use Rattle.abstract_state.specs.{declared.table.PlainEntry.{PlainEntry}, Components.{component_count}}
 use Rattle.osek_standard.proofs.Members.{contained_among}
@@ -10,8 +10,25 @@ use Rattle.flow_exits.specs.Leaving.{effect_rule}
 use Rattle.flow_rules.specs.{Assembly.{rule_of}, Ruling.{outcomes_by}}
 use Rattle.point_exits.specs.{declared.group.ExitGroup.{ExitGroup}, Groups.{all_exits, AreKnownGroups}, Deciding.{AddsFor, IsAny}, Leaving.{IsAfter}}
 use Rattle.flow_rules.proofs.RuledExits.{exits_ruled, none_ruled}
-use Rattle.point_exits.proofs.{EntryCounts.{sets_counted}, SettledGroups.{decided_known}}
+use Rattle.numbered_sets.proofs.NumberingLaws.{longer_itself}
+use Rattle.point_exits.proofs.{EntryCounts.{sets_counted}, SettledGroups.{decided_known}, SiftedSets.{empty_takes_none}}
 use Rattle.flow_rules.proofs.ruling.Ruled.add_effect.Goals as goal
+
+pub returns-then-not-is_filled-clause-grown : goal.returns-then-not-is_filled-clause-grown
+returns-then-not-is_filled-clause-grown c = record { app = refl; pool = longer_itself c.args.numbering.now.pool }
+
+pub returns-then-not-is_filled-clause-added : goal.returns-then-not-is_filled-clause-added
+returns-then-not-is_filled-clause-added c =
+    let app = c.args.self.now.app.now in
+    let pool = c.args.numbering.now.pool in
+    let entry = c.args.self.now.numbers.now in
+    let rule = effect_rule c.args.effect.now in
+    let size = sets_counted app pool entry c.args.self.now.alike in
+    let none : HasNone rule (plain_entry pool entry) = empty_takes_none pool rule entry (OnFalse_at c.if-not-is_filled.true c.is_filled.ensures.none) in
+    none_ruled app c.args.self.now.from.now c.args.effect.now c.args.rules.now (subst (λ (e : PlainEntry). length e.sets ≡ component_count app) c.requires.plain size) (subst (HasNone rule) c.requires.plain none)
+
+pub after-requires : goal.after-requires
+after-requires c = record { numbers = c.requires.numbers; filled = OnTrue_at c.if-not-is_filled.false c.is_filled.ensures.filled; kept = c.requires.domains }
 
 pub invariant_of-values : goal.invariant_of-values
 invariant_of-values c =

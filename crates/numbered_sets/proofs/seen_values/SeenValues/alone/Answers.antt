@@ -9,10 +9,10 @@ returns-in-None c =
     let values = c.args.self.now.values in
     subst (IsNumberAlone values v) (sym c.new-alone.ensures) (none_alone _ values v c.in-None.ensures.none)
 
-pub returns-in_ok-insert-in-Some : goal.returns-in_ok-insert-in-Some
-returns-in_ok-insert-in-Some c =
+pub returns-in_ok-put-in-Some : goal.returns-in_ok-put-in-Some
+returns-in_ok-put-in-Some c =
     let v = c.args.value.now in
     let values = c.args.self.now.values in
     let number = c.in-Some.number in
-    subst (IsNumberAlone values v) (sym (c.in_ok-insert-in-Some.ensures.set ∙ ap (λ (x : Numbers). with_number x number) c.new-alone.ensures))
+    subst (IsNumberAlone values v) (sym (c.in_ok-put-in-Some.ensures.set ∙ ap (λ (x : Numbers). with_number x number) c.new-alone.ensures))
     (number_alone _ values v number c.are_values.ensures.distinct c.in-Some.ensures.number)

@@ -48,6 +48,7 @@ push_end-requires c =
     let listed = subst (λ (xs : List Rule). Contains xs x) c.as_slice-rule-items.ensures (c.loop-rule.rule-index, c.loop-rule-test.true, sym c.rule-item.is) in
     record {
       numbers = still_known c.args.pool.now grown entry longer at.numbers;
+      filled = at.filled;
       kept = keeps c.args.self.now.app.now c.args.self.now.point c.args.pool.now grown entry c.args.rules.now c.requires.rules at.point at.numbers c.args.self.now.domains at.allowed longer x listed;
     }
 
@@ -72,6 +73,7 @@ push_arrival-requires-clause-rule c =
     let listed = subst (λ (xs : List Rule). Contains xs x) c.as_slice-rule-items.ensures (c.loop-rule.rule-index, c.loop-rule-test.true, sym c.rule-item.is) in
     record {
       numbers = still_known c.args.pool.now grown entry longer at.numbers;
+      filled = at.filled;
       kept = keeps c.args.self.now.app.now c.args.self.now.point c.args.pool.now grown entry c.args.rules.now c.requires.rules at.point at.numbers c.args.self.now.domains at.allowed longer x listed;
     }
 

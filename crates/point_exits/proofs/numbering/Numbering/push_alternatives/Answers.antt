@@ -50,7 +50,7 @@ after-requires c =
     let a = c.args.alternatives.now in
     let kept = effect_keeps app a c.requires.cases.apart pool entry c.requires.cases.numbers (c.requires.cases.numbers.domains ∙ c.args.self.now.domains) c.in-At.target c.in_ok-ends.ends
     c.in_ok-ends.ensures.ends c.requires.cases.own c.requires.cases.kept (sym c.is_empty.ensures ∙ c.if-is_empty.false) in
-    subst (λ (q : List Values). MayApply (effect_rule a.effect) q entry) (sym c.in_ok-ends.ensures.same) (record { numbers = c.requires.cases.numbers; kept = kept })
+    subst (λ (q : List Values). MayApply (effect_rule a.effect) q entry) (sym c.in_ok-ends.ensures.same) (record { numbers = c.requires.cases.numbers; filled = c.requires.cases.filled; kept = kept })
 
 pub returns-in_default-2-clause-added : goal.returns-in_default-2-clause-added
 returns-in_default-2-clause-added c =

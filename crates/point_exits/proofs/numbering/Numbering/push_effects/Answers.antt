@@ -24,6 +24,7 @@ push_effect-requires-clause-effect c =
     record {
       applies = record {
         numbers = still_known pool c.loop-effect.self.pool entry inv.added.longer may.numbers;
+        filled = may.filled;
         kept = subst (KeepsDomains (effect_rule x)) (sym (same_view pool c.loop-effect.self.pool entry inv.added.longer may.numbers)) (may.kept x one);
       };
       stay = subst (λ (app : App). IsKnownStay app x.leaving.stay) (sym inv.grown.app) (may.stays x one);
@@ -57,6 +58,7 @@ push_alternatives-requires-clause-cases c =
     let same = sym (same_view pool mid entry longer may.numbers) in
     record {
       numbers = still_known pool mid entry longer may.numbers;
+      filled = may.filled;
       own = subst HasOwnValues same may.own;
       apart = subst (λ (own : App). AreApart own c.in-Some.alternatives) (sym c.loop-effect.invariant.grown.app)
           (subst (λ (o : Option Alternatives). IfSome o (AreApart app)) c.in-Some.is may.apart);

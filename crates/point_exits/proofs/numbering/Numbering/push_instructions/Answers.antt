@@ -25,6 +25,7 @@ push_effects-requires-clause-effects c =
     let alike : domains plain ≡ domains_of app = same_domains c.args.self.now.pool 0 entry.sets ∙ (at.numbers.domains ∙ c.args.self.now.domains) in
     record {
       numbers = at.numbers;
+      filled = at.filled;
       own = own_values app p plain alike at.allowed;
       stays = c.in_ok-effects.ensures.stays;
       apart = c.in_ok-effects.ensures.apart;

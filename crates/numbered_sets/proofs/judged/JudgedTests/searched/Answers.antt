@@ -1,7 +1,7 @@
 use Rattle.std.proofs.Common.{sym, subst}
 use Rattle.numbered_sets.specs.{Judging.{AreJudgedTests}}
 use Rattle.numbered_sets.proofs.JudgedLaws.{judged_push}
-use Rattle.numbered_sets.proofs.judged.JudgedTests.place_for.Goals as goal
+use Rattle.numbered_sets.proofs.judged.JudgedTests.searched.Goals as goal
 
 pub returns-in_err-push-clause-judged : goal.returns-in_err-push-clause-judged
 returns-in_err-push-clause-judged c = subst (AreJudgedTests c.args.seen.now.values) (sym c.in_err-push.ensures.err) c.requires
