@@ -3,4 +3,4 @@
 
 mod tailoring;
 
-pub use tailoring::tailor;
+pub use tailoring::{tailor, tailor_with};

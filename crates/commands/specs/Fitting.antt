@@ -5,6 +5,8 @@ use Rattle.osek_standard.specs.declared.app.App.{App}
 use Rattle.image_model.specs.{declared.image.{Image.{Image}, Version.TheVariants.{Two}}, Laws.{IsKernelsRun}}
 use Rattle.image_codec.specs.Spelling.{spelling}
 use Rattle.abstract_state.specs.{declared.table.PlainTable.{PlainTable}, Tables.{Sets, Least, sets_of}, Written.{IsWritten}}
+use Rattle.table_rows.specs.BareExits.{AreKnownExits}
+use Rattle.state_flow.specs.declared.least_table.Explored.{Explored}
 use Rattle.dictated_forms.specs.Forms.{HasDictatedForms, HasDictatedStatuses}
 use Rattle.command_runs.specs.Replaying.{SpellImage}
 
@@ -12,6 +14,11 @@ use Rattle.command_runs.specs.Replaying.{SpellImage}
 pub record IsLeastTable (app : App) (table : PlainTable) : Type 0 where
   pub written : IsWritten app table
   pub least : Least app (sets_of table)
+
+-- it, with the exits of points that are known
+pub record IsLeastExplored (app : App) (x : Explored) : Type 0 where
+  pub least : IsLeastTable app x.table
+  pub known : AreKnownExits app x.table.rows x.exits
 
 -- An image that is the kernel of an application: in each of its modes, under every list of events, its trace is the
 -- kernel's, without a trap. Its bytes are those that `replay` reads.

@@ -18,9 +18,9 @@ use std::alloc::Global;
 fn image_of(alloc: Global, app: App) -> Result<Image, Memory>
     ensures { IfOk result (IsFitted app) }
 {
-    let table = least_table(alloc, &app)?;
-    let image = fitted(alloc, app, &table);
-    drop(table);
+    let least = least_table(alloc, &app)?;
+    let image = fitted(alloc, app, &least);
+    drop(least);
     image
 }
 

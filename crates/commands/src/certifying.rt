@@ -5,7 +5,7 @@ ghost use Rattle.osek_io.specs.Sunk.{Sunk};
 ghost use Rattle.table_codec.specs.declared.fault.WriteFault.TheVariants as a_fault;
 ghost use Rattle.table_codec.specs.Spelling.{spelling as table_spelling};
 ghost use Rattle.command_runs.specs.Outside.{beside, told};
-ghost use Rattle.commands.specs.{Certifying.{CertifyAnswers, SpellCertified, IsTableTooLong, StoreAnswers}, Fitting.{IsLeastTable}};
+ghost use Rattle.commands.specs.{Certifying.{CertifyAnswers, SpellCertified, IsTableTooLong, StoreAnswers}, Fitting.{IsLeastExplored}};
 
 use crate::compiling::compile;
 use crate::fitting::{fitted, least_table};
@@ -14,8 +14,9 @@ use image_codec::encode;
 use osek_io::{PutError, Shelf, store};
 use osek_standard::App;
 use osek_values::Memory;
+use state_flow::Explored;
 use std::alloc::Global;
-use table_codec::{Table, WriteFault, write_table};
+use table_codec::{WriteFault, write_table};
 
 /// The bytes of an image, and of the table that it is fitted by.
 #[derive(Drop)]
@@ -28,15 +29,15 @@ struct Certified {
 fn beside_image(
     alloc: Global,
     app: App,
-    solved: &Table,
+    least: &Explored,
     table: Vec<u8>,
 ) -> Result<Certified, Memory>
-    requires least { IsLeastTable app solved.now }
-    requires spelled { table.items ≡ table_spelling app solved.now }
+    requires least { IsLeastExplored app least.now }
+    requires spelled { table.items ≡ table_spelling app least.now.table }
     requires within { length table.items ≤ MAX_TABLE }
     ensures { IfOk result (λ x. SpellCertified app x.image.items x.table.items) }
 {
-    let fitted = fitted(alloc, app, solved)?;
+    let fitted = fitted(alloc, app, least)?;
     let image = encode(alloc, &fitted)?;
     Ok(Certified { image, table })
 }
@@ -46,9 +47,9 @@ fn certified_bytes(alloc: Global, app: App) -> Result<Certified, WriteFault>
     ensures bytes { IfOk result (λ x. SpellCertified app x.image.items x.table.items) }
     ensures too_long { result ≡ Err a_fault.TooLong → IsTableTooLong app }
 {
-    let solved = least_table(alloc, &app)?;
-    let table = write_table(alloc, &app, &solved)?;
-    match beside_image(alloc, app, &solved, table) {
+    let least = least_table(alloc, &app)?;
+    let table = write_table(alloc, &app, &least.table)?;
+    match beside_image(alloc, app, &least, table) {
         Ok(certified) => Ok(certified),
         Err(_) => Err(WriteFault::Memory),
     }

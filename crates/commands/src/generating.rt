@@ -85,10 +85,10 @@ fn analyze(alloc: Global, app: App) -> Result<Analyzed, Memory>
     ensures image { IfOk result (λ x. IsKernelImage app x.image) }
     ensures counts { IfOk result (λ x. AreLeastCounts app x.counts) }
 {
-    let table = least_table(alloc, &app)?;
-    let values = values(&app, &table);
-    let image = fitted(alloc, app, &table);
-    drop(table);
+    let least = least_table(alloc, &app)?;
+    let values = values(&app, &least.table);
+    let image = fitted(alloc, app, &least);
+    drop(least);
     let image = image?;
     let counts = analysis_counts(&image, values);
     Ok(Analyzed { image, counts })

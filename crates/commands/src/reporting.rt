@@ -10,7 +10,7 @@ use crate::compiling::compile;
 use crate::fitting::least_table;
 use crate::printing::put_line;
 use command_runs::{Stop, line_room, prefix};
-use flow_report::{Finding, write_finding_line};
+use flow_report::{Finding, report_with, write_finding_line};
 use osek_io::{PutBuffer, PutError, Shelf, Sink};
 use osek_standard::App;
 use osek_values::Memory;
@@ -21,8 +21,8 @@ use std::alloc::Global;
 fn least_findings(alloc: Global, app: &App) -> Result<Vec<Finding>, Memory>
     ensures { IfOk result (λ findings. AreLeastFindings app.now findings.items) }
 {
-    let table = least_table(alloc, app)?;
-    let findings = flow_report::report(alloc, app, &table)?;
+    let least = least_table(alloc, app)?;
+    let findings = report_with(alloc, app, &least.table, least.exits.as_slice())?;
     Ok(findings)
 }
 

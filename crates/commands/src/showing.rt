@@ -4,7 +4,7 @@ ghost use Rattle.osek_standard.specs.Points.{IsPoint};
 ghost use Rattle.abstract_state.specs.declared.edge.FlowEdge.{FlowEdge as AnEdge};
 ghost use Rattle.osek_io.specs.Reads.{OnlyReads};
 ghost use Rattle.flow_text.specs.Texts.{show_text};
-ghost use Rattle.commands.specs.Fitting.{IsLeastTable};
+ghost use Rattle.commands.specs.Fitting.{IsLeastExplored};
 ghost use Rattle.command_runs.specs.Outside.{outside};
 ghost use Rattle.osek_io.specs.Sunk.{sunk};
 ghost use Rattle.command_runs.specs.Playing.{given, Puts, PutsPrefix};
@@ -15,14 +15,13 @@ use crate::fitting::{fitted, least_table};
 use crate::printing::{print_counts, print_edges, print_sites};
 use abstract_state::FlowEdge;
 use command_runs::{Stop, line_room};
-use global_cfg::edges;
+use global_cfg::edges_with;
 use image_model::{Image, Version};
-use numbered_sets::Table;
 use osek_io::{PutBuffer, PutError, Shelf, Sink};
 use osek_standard::App;
 use osek_values::limits::LINE_MAX;
 use osek_values::{Memory, Seq};
-use state_flow::values;
+use state_flow::{Explored, values};
 use std::alloc::Global;
 
 /// What the least table of an application dictates.
@@ -36,13 +35,13 @@ pub struct Dictated {
     pub values: u64,
 }
 
-fn derive_by(alloc: Global, app: App, table: &Table) -> Result<Dictated, Memory>
-    requires table { IsLeastTable app table.now }
+fn derive_by(alloc: Global, app: App, least: &Explored) -> Result<Dictated, Memory>
+    requires { IsLeastExplored app least.now }
     ensures { IfOk result (IsDictated app) }
 {
-    let edges = edges(alloc, &app, table)?;
-    let values = values(&app, table);
-    let image = fitted(alloc, app, table)?;
+    let edges = edges_with(alloc, &app, &least.table, least.exits.as_slice())?;
+    let values = values(&app, &least.table);
+    let image = fitted(alloc, app, least)?;
     Ok(Dictated {
         image,
         edges,
@@ -54,9 +53,9 @@ fn derive_by(alloc: Global, app: App, table: &Table) -> Result<Dictated, Memory>
 fn derive(alloc: Global, app: App) -> Result<Dictated, Memory>
     ensures { IfOk result (IsDictated app) }
 {
-    let table = least_table(alloc, &app)?;
-    let dictated = derive_by(alloc, app, &table);
-    drop(table);
+    let least = least_table(alloc, &app)?;
+    let dictated = derive_by(alloc, app, &least);
+    drop(least);
     dictated
 }
 

@@ -148,9 +148,9 @@ fn print_end<O: Sink>(
 fn watch_of(alloc: Global, app: App) -> Result<Watch, Memory>
     ensures { IfOk result (IsLeastWatch app) }
 {
-    let table = least_table(alloc, &app)?;
-    let watch = Watch::new(alloc, app, &table);
-    drop(table);
+    let least = least_table(alloc, &app)?;
+    let watch = Watch::with(alloc, app, &least.table, least.exits.as_slice());
+    drop(least);
     watch
 }
 

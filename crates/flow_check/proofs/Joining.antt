@@ -69,16 +69,3 @@ module _ {X V : Type 0} (meant : V → X) (once : (v w : V) → meant v ≡ mean
   joined_seen (Alone v) (Alone w) z (inr j) p q = subst (IsSeen meant R) (sym j.1) (both_differ v w j.0 p q)
   joined_seen (Alone v) Several z j p q = subst (IsSeen meant R) (sym j) (several_right q)
   joined_seen Several y z j p q = subst (IsSeen meant R) (sym j) (several_left p)
-
-  -- what the second sought is among what the first saw
-  pub seen_already : (x : Seen V) (v : V) → AreJoined x (Alone v) x → ((y : X) → Q y → y ≡ meant v) → IsSeen meant P x → IsSeen meant R x
-  seen_already Nothing v j only h = absurd (cc)
-  seen_already (Alone w) v (inl j) only h = (
-    left (meant w) h.0,
-    λ x r. elim (from x r) [
-      | inl old ↦ h.1 x old
-      | inr new ↦ only x new ∙ ap meant (sym j.0)
-    ],
-  )
-  seen_already (Alone w) v (inr j) only h = absurd (let wrong : Alone w ≡ Several = j.1 in cc)
-  seen_already Several v j only h = several_left h

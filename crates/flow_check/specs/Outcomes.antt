@@ -5,13 +5,9 @@ use Rattle.osek_standard.specs.{declared.{app.App.{App}, state.State.{State}, po
 use Rattle.osek_standard.specs.Well.{IsActive}
 use Rattle.abstract_state.specs.declared.table.TableRow.{TableRow}
 use Rattle.flow_model.specs.{declared.case.Decision.{Decision}, Effects.{IsAt}, Scheduling.{outcome_of_decision}}
-use Rattle.flow_exits.specs.declared.exit.Exit.{Exit}
-use Rattle.numbered_sets.specs.Pools.{Values}
-use Rattle.point_exits.specs.{declared.group.{Ends.{Ends}, ExitGroup.{ExitGroup}}, Groups.{all_exits}}
-use Rattle.point_exits.specs.declared.group.Ends.TheVariants as ends
 use Rattle.flow_check.specs.declared.found.Findings.{Findings}
 use Rattle.flow_check.specs.declared.found.Found.TheVariants as found
-use Rattle.table_rows.specs.Rows.{AreExitsOf}
+use Rattle.table_rows.specs.{declared.bare.BareExit.{BareExit}, BareExits.{AreBareExitsOf}}
 use Rattle.flow_check.specs.Found.{AreFindings}
 
 -- the status that an instruction notes, if it notes one
@@ -34,16 +30,16 @@ module _ {X : Type 0} (app : App) (read : State → Bool → X) where
     pub stands : StandsAt row.point (block_no b)
     pub arises : Arises row x
 
-module _ {X : Type 0} (told : Exit → Decision → X) where
+module _ {X : Type 0} (told : BareExit → Decision → X) where
   -- the exit is an instruction's, of which this is told
-  pub record IsOfExit (x : Exit) (v : X) : Type 0 where
+  pub record IsOfExit (x : BareExit) (v : X) : Type 0 where
     pub decision : Decision
     pub decides : x.decision ≡ Some decision
     pub is : v ≡ told x decision
 
   -- so it is of one of these exits
-  pub record IsOfExits (exits : List Exit) (v : X) : Type 0 where
-    pub exit : Exit
+  pub record IsOfExits (exits : List BareExit) (v : X) : Type 0 where
+    pub exit : BareExit
     pub among : Contains exits exit
     pub is : IsOfExit exit v
 
@@ -51,14 +47,9 @@ module _ {X : Type 0} (told : Exit → Decision → X) where
 abbrev pub AreOfRow : App → TableRow → Findings → Type 0
 AreOfRow app row x = AreFindings (Arises app (outcome app) row) (Arises app (status_noted app) row) x
 
--- how many exits have these ends
-abbrev pub end_count : Ends → ℕ
-end_count (ends.At points) = length points
-end_count (ends.With xs) = length xs
-
 -- what is found of exits
-abbrev pub AreOfExits : List Exit → Findings → Type 0
-AreOfExits exits x = AreFindings (IsOfExits (λ (x : Exit) (d : Decision). outcome_of_decision d) exits) (IsOfExits (λ (x : Exit) (d : Decision). x.status) exits) x
+abbrev pub AreOfExits : List BareExit → Findings → Type 0
+AreOfExits exits x = AreFindings (IsOfExits (λ (x : BareExit) (d : Decision). outcome_of_decision d) exits) (IsOfExits (λ (x : BareExit) (d : Decision). x.status) exits) x
 
 -- what is found at block b over these rows, where it is a site
 abbrev pub IsFoundAt : App → List TableRow → ℕ → Option Findings → Type 0
@@ -70,10 +61,10 @@ pub record AreFound (app : App) (rows : List TableRow) (sites : List (Option Fin
   pub count : length sites ≡ length app.blocks
   pub each : (b : ℕ) → b < length app.blocks → IsFoundAt app rows b (slice_index_or sites b None)
 
--- with a row more at the point, whose exits are those of these groups, this is found at each block
-abbrev pub IsFoundBeside : Point → List ExitGroup → List (Option Findings) → List (Option Findings) → Type 0
-IsFoundBeside point groups before after =
-    (app : App) (pool : List Values) (rows : List TableRow) (row : TableRow) → row.point ≡ point → AreExitsOf app row (all_exits pool groups)
+-- with a row more at the point, whose exits are these, this is found at each block
+abbrev pub IsFoundBeside : Point → List BareExit → List (Option Findings) → List (Option Findings) → Type 0
+IsFoundBeside point exits before after =
+    (app : App) (rows : List TableRow) (row : TableRow) → row.point ≡ point → AreBareExitsOf app row exits
     → AreFound app rows before → AreFound app (rows ++ row ∷ []) after
 
 -- what is found at a block before the first row

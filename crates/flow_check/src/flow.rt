@@ -5,7 +5,7 @@ ghost use Rattle.table_rows.specs.Rows.{AreRowsFrom};
 ghost use Rattle.flow_check.specs.Flows.{IsFlow};
 
 use crate::found::Findings;
-use crate::outcomes::{add_groups, no_findings};
+use crate::outcomes::{add_exits, no_findings};
 use crate::staying::all_stay;
 use abstract_state::Point;
 use numbered_sets::{NumberedRow, Pool};
@@ -13,7 +13,7 @@ use osek_standard::App;
 use osek_values::{Memory, Seq};
 use point_exits::Numbering;
 use std::alloc::Global;
-use table_rows::row_groups;
+use table_rows::{bare_exits, row_groups};
 
 /// Where the steps from the states of a table lead.
 #[derive(Drop)]
@@ -44,7 +44,8 @@ pub(crate) fn flow_of(
         if !stay {
             return Ok(Flow::Leaves(row.point));
         }
-        add_groups(row.point, groups.as_slice(), &mut sites);
+        let exits = bare_exits(alloc, groups.as_slice())?;
+        add_exits(row.point, exits.as_slice(), &mut sites);
     }
     Ok(Flow::Stays(sites))
 }

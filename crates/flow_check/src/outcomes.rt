@@ -1,12 +1,10 @@
 //! The outcomes and the statuses at the sites, over the rows of a table.
-ghost use Rattle.std.specs.{Prelude.{◌≡◌, ◌++◌, ◌∷◌, [], ◌<◌, List, length, slice_index_or, None, IfOk, IfSome, IfNone}, Bool.{OnTrue, OnFalse}};
+ghost use Rattle.std.specs.{Prelude.{◌≡◌, ◌++◌, ◌∷◌, [], ◌<◌, List, length, slice_index_or, None, IfOk, IfSome, IfNone}, Bool.{OnFalse}};
 ghost use Rattle.osek_standard.specs.{Apps.{is_site}, Points.{StandsAt}};
 ghost use Rattle.osek_values.specs.declared.numbers.BlockNo.{BlockNo};
 ghost use Rattle.abstract_state.specs.Written.{IsWritten};
-ghost use Rattle.flow_exits.specs.declared.exit.Exit.{Exit};
-ghost use Rattle.numbered_sets.specs.Pools.{Values};
-ghost use Rattle.point_exits.specs.Groups.{exits_of, all_exits};
-ghost use Rattle.flow_check.specs.Outcomes.{end_count, AreOfExits, AreFound, IsFoundBeside, first_found};
+ghost use Rattle.table_rows.specs.{declared.bare.BareExit.{BareExit}, BareExits.{AreKnownExits}};
+ghost use Rattle.flow_check.specs.Outcomes.{AreOfExits, AreFound, IsFoundBeside, first_found};
 
 use crate::found::Findings;
 use abstract_state::Point;
@@ -14,18 +12,24 @@ use image_model::is_site;
 use numbered_sets::Table;
 use osek_standard::App;
 use osek_values::{BlockNo, Memory, Seq};
-use point_exits::{Ends, ExitGroup};
 use std::alloc::Global;
-use table_rows::{RowFold, fold_rows};
+use table_rows::{BareExit, PointExits, RowFold, fold_rows};
 
-/// What is found at each block that is a site, over the rows of a table.
-pub fn findings(alloc: Global, app: &App, table: &Table) -> Result<Seq<Option<Findings>>, Memory>
-    requires { IsWritten app.now table.now }
+/// What is found at each block that is a site, over the rows of a table. The exits that are known of points needn't be found
+/// again.
+pub fn findings(
+    alloc: Global,
+    app: &App,
+    table: &Table,
+    known: &[PointExits],
+) -> Result<Seq<Option<Findings>>, Memory>
+    requires written { IsWritten app.now table.now }
+    requires known { AreKnownExits app.now table.now.rows known.now }
     ensures { IfOk result (AreFound app.now table.now.rows) }
 {
     let sites = no_findings(alloc, app)?;
     let mut made = FoundInRows { sites };
-    fold_rows(alloc, app, table, &mut made)?;
+    fold_rows(alloc, app, table, known, &mut made)?;
     Ok(made.sites)
 }
 
@@ -49,9 +53,9 @@ impl RowFold for FoundInRows {
         _alloc: Global,
         _app: &App,
         point: Point,
-        groups: &[ExitGroup],
+        exits: &[BareExit],
     ) -> Result<(), Memory> {
-        add_groups(point, groups, &mut self.sites);
+        add_exits(point, exits, &mut self.sites);
         Ok(())
     }
 }
@@ -89,16 +93,16 @@ fn is_at_site(point: Point, sites: &Seq<Option<Findings>>) -> bool
 }
 
 /// Adds what the exits of a row show, where its point stands at a site.
-pub(crate) fn add_groups(point: Point, groups: &[ExitGroup], sites: &mut Seq<Option<Findings>>)
+pub(crate) fn add_exits(point: Point, exits: &[BareExit], sites: &mut Seq<Option<Findings>>)
     requires { (b : BlockNo) → StandsAt point b → b.0 < length sites.old }
-    ensures { IsFoundBeside point groups.now sites.old sites.new }
+    ensures { IsFoundBeside point exits.now sites.old sites.new }
 {
     match block_of(point) {
         None => {}
         Some(block) => match *sites.at(block.index()) {
             None => {}
             Some(before) => {
-                let more = found_in(groups);
+                let more = found_in(exits);
                 sites.put(block.index(), Some(before.join(more)));
             }
         },
@@ -117,37 +121,27 @@ fn block_of(point: Point) -> Option<BlockNo>
 }
 
 // what exits tell
-fn found_in(groups: &[ExitGroup]) -> Findings
-    ensures { (pool : List Values) → AreOfExits (all_exits pool groups.now) result }
+fn found_in(exits: &[BareExit]) -> Findings
+    ensures { AreOfExits exits.now result }
 {
     let mut found = Findings::none();
-    for group in groups {
-        found = with_group(found, group);
+    for exit in exits {
+        found = with_exit(found, exit);
     }
     found
 }
 
-// What was found, and what the exits of a group tell, which all tell the same. The begin of a routine tells nothing.
-fn with_group(found: Findings, group: &ExitGroup) -> Findings
-    ensures { (pool : List Values) (done : List Exit) → AreOfExits done found → AreOfExits (done ++ exits_of pool group.now) result }
+// What was found, and what an exit tells. The begin of a routine tells nothing.
+fn with_exit(found: Findings, exit: &BareExit) -> Findings
+    ensures { (done : List BareExit) → AreOfExits done found → AreOfExits (done ++ exit.now ∷ []) result }
 {
-    match group.decision {
+    match exit.decision {
         None => found,
         Some(decision) => {
-            if found.tells(decision, group.status) || !has_end(&group.ends) {
+            if found.tells(decision, exit.status) {
                 return found;
             }
-            found.join(Findings::one(decision, group.status))
+            found.join(Findings::one(decision, exit.status))
         }
-    }
-}
-
-fn has_end(ends: &Ends) -> bool
-    ensures some { OnTrue result (0 < end_count ends.now) }
-    ensures none { OnFalse result (end_count ends.now ≡ 0) }
-{
-    match ends {
-        Ends::At(points) => points.len() > 0,
-        Ends::With(ends) => ends.len() > 0,
     }
 }

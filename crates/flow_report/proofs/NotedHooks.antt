@@ -1,16 +1,12 @@
 -- What is noted of hooks, in sets that are joined.
-use Rattle.std.proofs.Common.{◌≡◌, ◌⊎◌, ℕ, ◌+◌, ◌<◌, ◌||◌, List, [], ◌∷◌, ◌++◌, IsTrue, sym, ap, ap₂, subst, ◌∙◌, inl, inr, arith}
-use Rattle.std.specs.{Prelude.{Contains, bit_or}, declared.option.Option.{Option}}
-use Rattle.std.proofs.lemmas.{Bool.{or_cases, or_left, or_right, cases_lt}, List.Elements.{Contains-append_left, Contains-append_right, Contains-append_cases, Contains-push, Contains-push_cases}}
-use Rattle.osek_values.specs.{Hooks.{hook_set}, Numbers.{mode_no}, declared.{hooks.HookSet.{HookSet}, status.Status.{Status}, numbers.ModeNo.{ModeNo}}}
-use Rattle.osek_standard.specs.{declared.{app.App.{App}, point.Point.{Point}}, TraceText.{has_hook}, Kernel.{start}, Effects.{wanted}}
+use Rattle.std.proofs.Common.{◌≡◌, ◌⊎◌, ℕ, ◌+◌, ◌||◌, List, [], ◌∷◌, ◌++◌, IsTrue, sym, ap, subst, ◌∙◌, inl, inr, arith}
+use Rattle.std.specs.Prelude.{bit_or}
+use Rattle.std.proofs.lemmas.{Bool.{or_cases, or_left, or_right, cases_lt}, List.Elements.{Contains-append_left, Contains-push, Contains-push_cases}}
+use Rattle.osek_values.specs.{Hooks.{hook_set}, Numbers.{mode_no}, declared.{hooks.HookSet.{HookSet}, numbers.ModeNo.{ModeNo}}}
+use Rattle.osek_standard.specs.{declared.{app.App.{App}, point.Point.{Point}}, TraceText.{has_hook}, Kernel.{start}}
 use Rattle.abstract_state.specs.declared.table.TableRow.{TableRow}
-use Rattle.flow_model.specs.{declared.case.Decision.{Decision}, Rules.{mark_by}}
-use Rattle.flow_exits.specs.declared.exit.Exit.{Exit}
-use Rattle.numbered_sets.specs.Pools.{Values}
-use Rattle.point_exits.specs.{declared.group.ExitGroup.{ExitGroup}, Groups.{exits_of}}
-use Rattle.flow_check.{specs.Outcomes.{end_count}, proofs.ExitOutcomes.{alike_in_group, some_in_group, none_in_group}}
-use Rattle.flow_report.specs.{Noting.{due_hooks, NotesByExit, NotesAtStart, NotesInRow, NotesInRows, AreHooks}}
+use Rattle.table_rows.specs.declared.bare.BareExit.{BareExit}
+use Rattle.flow_report.specs.{Noting.{exit_hooks, NotesByExit, NotesAtStart, NotesInRow, NotesInRows, AreHooks}}
 use Rattle.flow_report.proofs.HookBits.{has_hook_of_both, has_no_hook}
 
 -- ---- sets that are joined
@@ -69,33 +65,20 @@ module _ (app : App) where
       ])
       old new e
 
-  -- ---- exits, group by group
+  -- ---- exits, one after another
 
   module _ (p : Point) where
     pub exits_begun : (x : HookSet) → x ≡ hook_set 0 → AreHooks (NotesByExit app p []) x
     exits_begun x e = no_hooks (NotesByExit app p []) (λ h n. (let lt = n.among.1 in omega (arith, lt))) x e
 
-    pub exits_noted : (done more all : List Exit) (before these after : HookSet) → done ++ more ≡ all → after ≡ hook_set (bit_or before.0 these.0)
-        → AreHooks (NotesByExit app p done) before → AreHooks (NotesByExit app p more) these → AreHooks (NotesByExit app p all) after
-    exits_noted done more all before these after whole e old new = subst (λ (xs : List Exit). AreHooks (NotesByExit app p xs) after) whole
-        (both_hooks (NotesByExit app p done) (NotesByExit app p more) (NotesByExit app p (done ++ more)) before these after
-        (λ h n. record { exit = n.exit; among = Contains-append_left done more n.exit n.among; notes = n.notes })
-        (λ h n. record { exit = n.exit; among = Contains-append_right done more n.exit n.among; notes = n.notes })
-        (λ h n. elim (Contains-append_cases done more n.exit n.among) [
+    pub exit_noted : (done : List BareExit) (x : BareExit) (before these after : HookSet) → these ≡ exit_hooks app p x → after ≡ hook_set (bit_or before.0 these.0)
+        → AreHooks (NotesByExit app p done) before → AreHooks (NotesByExit app p (done ++ x ∷ [])) after
+    exit_noted done x before these after is e old =
+        both_hooks (NotesByExit app p done) (λ (h : ℕ). IsTrue (has_hook these h)) (NotesByExit app p (done ++ x ∷ [])) before these after
+        (λ h n. record { exit = n.exit; among = Contains-append_left done (x ∷ []) n.exit n.among; notes = n.notes })
+        (λ h has. record { exit = x; among = Contains-push done x; notes = ap (λ (w : HookSet). has_hook w h) (sym is) ∙ has })
+        (λ h n. elim (Contains-push_cases done x n.exit n.among) [
           | inl first ↦ inl (record { exit = n.exit; among = first; notes = n.notes })
-          | inr last ↦ inr (record { exit = n.exit; among = last; notes = n.notes })
+          | inr same ↦ inr (ap (λ (w : HookSet). has_hook w h) (is ∙ ap (exit_hooks app p) same) ∙ n.notes)
         ])
-        old new e)
-
-    pub group_notes : (pool : List Values) (g : ExitGroup) (these : HookSet) → 0 < end_count g.ends → these ≡ wanted app (due_hooks app p (mark_by g.decision g.status)) → AreHooks (NotesByExit app p (exits_of pool g)) these
-    group_notes pool g these some e h hook =
-        let x = some_in_group pool g g.ends some in
-        let alike = λ (y : Exit) (m : Contains (exits_of pool g) y).
-        let same = alike_in_group pool g g.ends y m in
-        ap₂ (λ (d : Option Decision) (s : Option Status). wanted app (due_hooks app p (mark_by d s))) same.0 same.1 in (
-          (λ has. record { exit = x.0; among = x.1; notes = ap (λ (w : HookSet). has_hook w h) (alike x.0 x.1 ∙ sym e) ∙ has }),
-          (λ n. ap (λ (w : HookSet). has_hook w h) (e ∙ sym (alike n.exit n.among)) ∙ n.notes),
-        )
-
-    pub no_group_notes : (pool : List Values) (g : ExitGroup) (these : HookSet) → end_count g.ends ≡ 0 → these ≡ hook_set 0 → AreHooks (NotesByExit app p (exits_of pool g)) these
-    no_group_notes pool g these none e = no_hooks (NotesByExit app p (exits_of pool g)) (λ h n. none_in_group pool g g.ends none n.exit n.among) these e
+        old (λ h hook. ((λ has. has), (λ has. has))) e

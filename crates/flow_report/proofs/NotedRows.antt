@@ -5,9 +5,8 @@ use Rattle.osek_values.specs.{Hooks.{hook_set, startup, shutdown, error, pre_tas
 use Rattle.osek_standard.specs.declared.{app.App.{App}, point.Point.{Point}}
 use Rattle.osek_standard.specs.{TraceText.{has_hook}, Effects.{wanted}, Kernel.{step}, Outcomes.{Mark, Silent, Arrived, Did, shows}}
 use Rattle.abstract_state.specs.{declared.table.{TableRow.{TableRow}, PlainTable.{PlainTable}}, Tables.{Sets, sets_of}, Written.{IsWritten}}
-use Rattle.flow_exits.specs.{declared.exit.Exit.{Exit}, Exits.{CoverSteps, AreExact}}
 use Rattle.flow_exits.proofs.ExactExits.{some_value}
-use Rattle.table_rows.proofs.TableRows.{row_in}
+use Rattle.table_rows.{specs.{declared.bare.BareExit.{BareExit}, BareExits.{bare_exit, AreBareExitsOf}}, proofs.TableRows.{row_in}}
 use Rattle.flow_report.specs.{declared.finding.Finding.{Finding}, Findings.{IsHook, NoStepIs, Holds}, FindingOrder.{rank, hook_place}}
 use Rattle.flow_report.specs.Noting.{due_hooks, exit_hooks, NotesByExit, NotesAtStart, NotesInRow, NotesInRows, NotesInTable, AreHooks}
 use Rattle.flow_report.specs.declared.finding.Finding.TheVariants as finding
@@ -19,10 +18,10 @@ silent_or_not Silent = inl refl
 silent_or_not Arrived = inr (λ e. cc)
 silent_or_not (Did o x) = inr (λ e. cc)
 
-module _ (app : App) (row : TableRow) (exits : List Exit) where
+module _ (app : App) (row : TableRow) (exits : List BareExit) (of : AreBareExitsOf app row exits) where
   -- what a step notes, an exit does
-  noted_by_exit : CoverSteps app row.point row.entry exits → (h : ℕ) → NotesInRow app h row → NotesByExit app row.point exits h
-  noted_by_exit covers h n =
+  noted_by_exit : (h : ℕ) → NotesInRow app h row → NotesByExit app row.point exits h
+  noted_by_exit h n =
       let s = n.from in
       let e = n.event in
       let due : (step app s e).notes.hooks ≡ wanted app (due_hooks app row.point (shows app s e)) = step_due app s e ∙ ap (λ (p : Point). wanted app (due_hooks app p (shows app s e))) n.at.point in
@@ -31,25 +30,27 @@ module _ (app : App) (row : TableRow) (exits : List Exit) where
             (let none : (step app s e).notes.hooks ≡ wanted app 0 = due ∙ ap (λ (m : Mark). wanted app (due_hooks app row.point m)) silent in
             absurd (has_no_hook h (ap (λ (x : HookSet). has_hook x h) (sym (none ∙ wanted_none app)) ∙ n.notes)))
         | inr other ↦
-            (let by = covers s e n.at other in
+            (let by = of.are.steps s e n.at other in
             record {
-              exit = by.exit;
-              among = by.listed;
+              exit = bare_exit by.exit;
+              among = of.bare.all by.exit by.listed;
               notes = ap (λ (x : HookSet). has_hook x h) (sym (due ∙ ap (λ (m : Mark). wanted app (due_hooks app row.point m)) by.by.shows)) ∙ n.notes;
             })
       ]
 
   -- and what an exit notes, a step does
-  noted_by_step : AreExact app row.point row.entry exits → (h : ℕ) → NotesByExit app row.point exits h → NotesInRow app h row
-  noted_by_step exact h n =
-      let x = exact n.exit n.among in
-      let to = x.shown (λ c. (some_value app n.exit.entry x.filled c).0) (λ c lt. (some_value app n.exit.entry x.filled c).1 lt) in
+  noted_by_step : (h : ℕ) → NotesByExit app row.point exits h → NotesInRow app h row
+  noted_by_step h n =
+      let bare = of.bare.each n.exit n.among in
+      let whole = bare.exit in
+      let x = of.are.exact whole bare.listed in
+      let to = x.shown (λ c. (some_value app whole.entry x.filled c).0) (λ c lt. (some_value app whole.entry x.filled c).1 lt) in
       let due : (step app to.from to.event).notes.hooks ≡ exit_hooks app row.point n.exit
-      = step_due app to.from to.event ∙ ap₂ (λ (p : Point) (m : Mark). wanted app (due_hooks app p m)) to.at.point to.shows in
+      = step_due app to.from to.event ∙ ap₂ (λ (p : Point) (m : Mark). wanted app (due_hooks app p m)) to.at.point to.shows ∙ sym (ap (exit_hooks app row.point) bare.is) in
       record { from = to.from; event = to.event; at = to.at; notes = ap (λ (y : HookSet). has_hook y h) due ∙ n.notes }
 
-  pub hooks_in_row : CoverSteps app row.point row.entry exits → AreExact app row.point row.entry exits → (x : HookSet) → AreHooks (NotesByExit app row.point exits) x → AreHooks (λ (h : ℕ). NotesInRow app h row) x
-  hooks_in_row covers exact x are h hook = ((λ has. noted_by_step exact h ((are h hook).0 has)), (λ n. (are h hook).1 (noted_by_exit covers h n)))
+  pub hooks_in_row : (x : HookSet) → AreHooks (NotesByExit app row.point exits) x → AreHooks (λ (h : ℕ). NotesInRow app h row) x
+  hooks_in_row x are h hook = ((λ has. noted_by_step h ((are h hook).0 has)), (λ n. (are h hook).1 (noted_by_exit h n)))
 
 module _ (app : App) (table : PlainTable) (written : IsWritten app table) where
   -- what a step from a state in the table notes, one from a state of a row does, and the other way round

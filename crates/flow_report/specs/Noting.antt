@@ -8,8 +8,8 @@ use Rattle.osek_standard.specs.declared.point.Point.TheVariants as point
 use Rattle.image_model.specs.CallNames as call
 use Rattle.osek_standard.specs.{Apps.{the_block}, Effects.{is_error, wanted}, Dispatch.{Outcome, Keep, To}, Kernel.{start, step}, Outcomes.{Mark, Silent, Arrived, Did}, TraceText.{has_hook}}
 use Rattle.abstract_state.specs.{declared.table.TableRow.{TableRow}, Tables.{Sets, In}}
-use Rattle.flow_model.specs.Effects.{IsAt}
-use Rattle.flow_exits.specs.{declared.exit.Exit.{Exit}, Exits.{exit_mark}}
+use Rattle.flow_model.specs.{Effects.{IsAt}, Rules.{mark_by}}
+use Rattle.table_rows.specs.declared.bare.BareExit.{BareExit}
 use Rattle.flow_report.specs.Findings.{IsHook}
 
 -- ---- the hooks of a step, by where it begins and what it shows
@@ -44,11 +44,11 @@ module _ (app : App) where
   due_hooks p (Did o status) = bit_or (bit_or (when (is_error status) error) (when (shuts_down p) shutdown)) (dispatch_hooks_at p o)
 
   -- what an exit of a point notes
-  abbrev pub exit_hooks : Point → Exit → HookSet
-  exit_hooks p x = wanted app (due_hooks p (exit_mark x))
+  abbrev pub exit_hooks : Point → BareExit → HookSet
+  exit_hooks p x = wanted app (due_hooks p (mark_by x.decision x.status))
 
-  pub record NotesByExit (p : Point) (exits : List Exit) (h : ℕ) : Type 0 where
-    pub exit : Exit
+  pub record NotesByExit (p : Point) (exits : List BareExit) (h : ℕ) : Type 0 where
+    pub exit : BareExit
     pub among : Contains exits exit
     pub notes : IsTrue (has_hook (exit_hooks p exit) h)
 

@@ -13,4 +13,4 @@ mod resources;
 
 pub use finding::Finding;
 pub use finding_lines::write_finding_line;
-pub use reporting::report;
+pub use reporting::{report, report_with};

@@ -1,13 +1,11 @@
 //! The hooks that run.
-ghost use Rattle.std.specs.{Prelude.{◌≡◌, ◌⊎◌, ◌<◌, List, length, IfOk}, Bool.{OnTrue, OnFalse}};
+ghost use Rattle.std.specs.Prelude.{◌≡◌, ◌⊎◌, ◌<◌, length, IfOk};
 ghost use Rattle.osek_values.specs.Hooks.{hook_set};
 ghost use Rattle.osek_standard.specs.{Points.{IsPoint}, Effects.{is_error as is_error_of}, Outcomes.{Did}};
 ghost use Rattle.abstract_state.specs.{Tables.{sets_of}, Written.{IsWritten}};
 ghost use Rattle.flow_model.specs.Scheduling.{outcome_of_decision};
-ghost use Rattle.numbered_sets.specs.Pools.{Values};
-ghost use Rattle.point_exits.specs.Groups.{exits_of, all_exits};
-ghost use Rattle.flow_check.specs.Outcomes.{end_count};
-ghost use Rattle.flow_report.specs.Noting.{AreHooks, NotesAtStart, NotesInRows, NotesInTable, NotesByExit, due_hooks};
+ghost use Rattle.table_rows.specs.BareExits.{AreKnownExits};
+ghost use Rattle.flow_report.specs.Noting.{AreHooks, NotesAtStart, NotesInRows, NotesInTable, NotesByExit, due_hooks, exit_hooks};
 ghost use Rattle.flow_report.specs.Noting.{shuts_down as shuts_down_at, over_some as over_some_at, dispatch_hooks_at};
 
 use abstract_state::Point;
@@ -16,17 +14,22 @@ use generic_kernel::start;
 use numbered_sets::Table;
 use osek_standard::{App, Call, Kind};
 use osek_values::{HookSet, Memory, ModeNo, Status};
-use point_exits::{Ends, ExitGroup};
 use std::alloc::Global;
-use table_rows::{RowFold, fold_rows};
+use table_rows::{BareExit, PointExits, RowFold, fold_rows};
 
 /// The hooks that the start in some mode notes, or some step from a state in a table.
-pub fn hooks_noted(alloc: Global, app: &App, table: &Table) -> Result<HookSet, Memory>
-    requires { IsWritten app.now table.now }
+pub fn hooks_noted(
+    alloc: Global,
+    app: &App,
+    table: &Table,
+    known: &[PointExits],
+) -> Result<HookSet, Memory>
+    requires written { IsWritten app.now table.now }
+    requires known { AreKnownExits app.now table.now.rows known.now }
     ensures { IfOk result (AreHooks (λ h. NotesAtStart app.now h (length app.now.modes) ⊎ NotesInTable app.now h (sets_of table.now))) }
 {
     let at_start = hooks_of_starts(alloc, app)?;
-    let of_steps = hooks_of_rows(alloc, app, table)?;
+    let of_steps = hooks_of_rows(alloc, app, table, known)?;
     Ok(at_start.with(of_steps))
 }
 
@@ -43,13 +46,19 @@ fn hooks_of_starts(alloc: Global, app: &App) -> Result<HookSet, Memory>
 }
 
 // the hooks of the steps from the states of a table
-fn hooks_of_rows(alloc: Global, app: &App, table: &Table) -> Result<HookSet, Memory>
-    requires { IsWritten app.now table.now }
+fn hooks_of_rows(
+    alloc: Global,
+    app: &App,
+    table: &Table,
+    known: &[PointExits],
+) -> Result<HookSet, Memory>
+    requires written { IsWritten app.now table.now }
+    requires known { AreKnownExits app.now table.now.rows known.now }
     ensures { IfOk result (AreHooks (λ h. NotesInRows app.now h table.now.rows)) }
 {
     let hooks = HookSet::none();
     let mut made = HooksOfRows { hooks };
-    fold_rows(alloc, app, table, &mut made)?;
+    fold_rows(alloc, app, table, known, &mut made)?;
     Ok(made.hooks)
 }
 
@@ -69,50 +78,36 @@ impl RowFold for HooksOfRows {
         _alloc: Global,
         app: &App,
         point: Point,
-        groups: &[ExitGroup],
+        exits: &[BareExit],
     ) -> Result<(), Memory> {
-        let of_row = hooks_of_groups(app, point, groups);
+        let of_row = hooks_of_exits(app, point, exits);
         self.hooks = self.hooks.with(of_row);
         Ok(())
     }
 }
 
 // the hooks of the exits of a point
-fn hooks_of_groups(app: &App, point: Point, groups: &[ExitGroup]) -> HookSet
+fn hooks_of_exits(app: &App, point: Point, exits: &[BareExit]) -> HookSet
     requires { IsPoint app.now point }
-    ensures { (pool : List Values) → AreHooks (NotesByExit app.now point (all_exits pool groups.now)) result }
+    ensures { AreHooks (NotesByExit app.now point exits.now) result }
 {
     let mut hooks = HookSet::none();
-    for group in groups {
-        hooks = hooks.with(hooks_of_group(app, point, group));
+    for exit in exits {
+        hooks = hooks.with(hooks_of_exit(app, point, exit));
     }
     hooks
 }
 
-// the hooks of the exits of a group, which all note the same
-fn hooks_of_group(app: &App, point: Point, group: &ExitGroup) -> HookSet
+// the hooks of an exit of a point
+fn hooks_of_exit(app: &App, point: Point, exit: &BareExit) -> HookSet
     requires { IsPoint app.now point }
-    ensures { (pool : List Values) → AreHooks (NotesByExit app.now point (exits_of pool group.now)) result }
+    ensures { result ≡ exit_hooks app.now point exit.now }
 {
-    if !has_exit(group) {
-        return HookSet::none();
-    }
-    match group.decision {
+    match exit.decision {
         None => HookSet::none(),
         Some(decision) => app
             .hooks
-            .among(hooks_due(app, point, decision, group.status)),
-    }
-}
-
-// whether a group has an exit
-fn has_exit(group: &ExitGroup) -> bool
-    ensures some { OnTrue result (0 < end_count group.now.ends) }
-    ensures none { OnFalse result (end_count group.now.ends ≡ 0) }
-{
-    match &group.ends {
-        Ends::At(points) => points.len() > 0,
-        Ends::With(ends) => ends.len() > 0,
+            .among(hooks_due(app, point, decision, exit.status)),
     }
 }
 

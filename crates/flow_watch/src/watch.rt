@@ -6,12 +6,13 @@ use crate::alarm::Alarm;
 use crate::hints::Hints;
 use crate::places::{edge_place, has_point, is_same, leads_at};
 use abstract_state::FlowEdge;
-use global_cfg::edges;
+use global_cfg::edges_with;
 use numbered_sets::Table;
 use osek_standard::{App, Point};
 use osek_values::{Memory, Seq};
 use std::alloc::Global;
 use std::marker::Model;
+use table_rows::PointExits;
 
 /// What watches a record of points for its first alarm. It takes all its memory when it is made.
 #[derive(Drop)]
@@ -54,6 +55,7 @@ impl Watch {
     ghost use Rattle.osek_values.specs.declared.{event.Event.{Event}, numbers.ModeNo.{ModeNo}};
     ghost use Rattle.abstract_state.specs.{Tables.{Least, sets_of}, Written.{IsWritten}};
     ghost use Rattle.std.specs.List.{list_any};
+    ghost use Rattle.table_rows.specs.BareExits.{AreKnownExits};
     ghost use Rattle.flow_watch.specs.{Records.{IsQuiet, record_of}, Watches.{IsWatchOf, leads_to, may_come, seen_by}};
 
     /// A watch over the least table of an application, which saw nothing yet.
@@ -64,8 +66,25 @@ impl Watch {
         // no record of a run has an alarm
         ensures quiet { (mode : ModeNo) (es : List Event) → mode.0 < length app.modes → IsQuiet app (sets_of table.now) None (record_of app mode es) }
     {
+        Watch::with(alloc, app, table, &[])
+    }
+
+    /// The same watch, where exits are known of points, so that these needn't be evaluated again.
+    pub fn with(
+        alloc: Global,
+        app: App,
+        table: &Table,
+        known: &[PointExits],
+    ) -> Result<Watch, Memory>
+        requires written { IsWritten app table.now }
+        requires least { Least app (sets_of table.now) }
+        requires known { AreKnownExits app table.now.rows known.now }
+        ensures watch { IfOk result (IsWatchOf app (sets_of table.now)) }
+        // no record of a run has an alarm
+        ensures quiet { (mode : ModeNo) (es : List Event) → mode.0 < length app.modes → IsQuiet app (sets_of table.now) None (record_of app mode es) }
+    {
         let entries = entries(alloc, table)?;
-        let edges = edges(alloc, &app, table)?;
+        let edges = edges_with(alloc, &app, table, known)?;
         let hints = Hints::new(alloc)?;
         Ok(Watch {
             app,

@@ -6,9 +6,7 @@ use Rattle.abstract_state.specs.{declared.{table.{PlainEntry.{PlainEntry}, Table
 use Rattle.flow_model.specs.declared.case.Decision.{Decision}
 use Rattle.flow_model.specs.declared.case.Decision.TheVariants as decision
 use Rattle.flow_model.specs.Effects.{IsAt}
-use Rattle.flow_exits.specs.declared.exit.Exit.{Exit}
-use Rattle.point_exits.specs.declared.group.NumberEnd.{NumberEnd}
-use Rattle.table_rows.specs.Order.{AscendBy}
+use Rattle.table_rows.specs.{declared.bare.BareExit.{BareExit}, Order.{AscendBy}}
 use Rattle.global_cfg.specs.{Edges.{AreAscending}, PointOrder.{HasNumber}}
 
 -- the scheduler gives the processor to a task
@@ -23,8 +21,8 @@ abbrev pub leads : Point → Option Decision → Point → Bool
 leads target decision p = not (point_number target == point_number p) || dispatches decision
 
 -- an exit of these by which control flow leads on from p to this point
-pub record HasExitTo (p : Point) (exits : List Exit) (q : Point) : Type 0 where
-  pub exit : Exit
+pub record HasExitTo (p : Point) (exits : List BareExit) (q : Point) : Type 0 where
+  pub exit : BareExit
   pub listed : Contains exits exit
   pub on : leads exit.target exit.decision p ≡ true
   pub ends : q ≡ exit.target
@@ -37,19 +35,8 @@ pub record AreAllPut (Has : Point → Type 0) (before after : List Point) : Type
   pub each : (q : Point) → Has q → HasNumber after (point_number q)
 
 -- The targets are put in of the exits by which control flow leads on from p.
-abbrev pub AreEndsPut : Point → List Exit → List Point → List Point → Type 0
+abbrev pub AreEndsPut : Point → List BareExit → List Point → List Point → Type 0
 AreEndsPut p exits before after = AreAllPut (HasExitTo p exits) before after
-
--- one of these targets, to which control flow leads on from p after this decision
-pub record IsTargetAfter (p : Point) (decided : Option Decision) (targets : List Point) (q : Point) : Type 0 where
-  pub listed : Contains targets q
-  pub on : leads q decided p ≡ true
-
-abbrev pub ArePutAfter : Point → Option Decision → List Point → List Point → List Point → Type 0
-ArePutAfter p decided targets before after = AreAllPut (IsTargetAfter p decided targets) before after
-
-abbrev pub end_target : NumberEnd → Point
-end_target x = x.target
 
 -- some state of the entry at p steps to a state at q, and q is another point or the task of p is dispatched anew
 pub record LeadsTo (app : App) (p : Point) (entry : PlainEntry) (q : Point) : Type 0 where

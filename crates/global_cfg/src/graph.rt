@@ -2,6 +2,7 @@
 ghost use Rattle.std.specs.Prelude.{◌≡◌, ◌++◌, ◌↔◌, map, Contains, IfOk, OnOk};
 ghost use Rattle.osek_standard.specs.declared.point.Point.{Point};
 ghost use Rattle.abstract_state.specs.{Edges.{Edge, flow_edge}, Tables.{sets_of}, Written.{IsWritten}};
+ghost use Rattle.table_rows.specs.BareExits.{AreKnownExits};
 ghost use Rattle.global_cfg.specs.Edges.{AreAscending};
 
 use crate::targets::targets;
@@ -9,9 +10,8 @@ use abstract_state::{FlowEdge, Point};
 use numbered_sets::Table;
 use osek_standard::App;
 use osek_values::{Memory, Seq};
-use point_exits::ExitGroup;
 use std::alloc::Global;
-use table_rows::{RowFold, fold_rows};
+use table_rows::{BareExit, PointExits, RowFold, fold_rows};
 
 /// The edges that a table of the application dictates, by where they begin and then by where they end.
 pub fn edges(alloc: Global, app: &App, table: &Table) -> Result<Seq<FlowEdge>, Memory>
@@ -19,9 +19,24 @@ pub fn edges(alloc: Global, app: &App, table: &Table) -> Result<Seq<FlowEdge>, M
     ensures exact { IfOk result (λ edges. (p q : Point) → Contains edges (flow_edge p q) ↔ Edge app.now (sets_of table.now) p q) }
     ensures ascending { IfOk result AreAscending }
 {
+    edges_with(alloc, app, table, &[])
+}
+
+/// The same edges, where exits are known of points, so that these needn't be evaluated again.
+pub fn edges_with(
+    alloc: Global,
+    app: &App,
+    table: &Table,
+    known: &[PointExits],
+) -> Result<Seq<FlowEdge>, Memory>
+    requires written { IsWritten app.now table.now }
+    requires known { AreKnownExits app.now table.now.rows known.now }
+    ensures exact { IfOk result (λ edges. (p q : Point) → Contains edges (flow_edge p q) ↔ Edge app.now (sets_of table.now) p q) }
+    ensures ascending { IfOk result AreAscending }
+{
     let edges = Seq::new(alloc);
     let mut made = EdgesOfRows { edges };
-    fold_rows(alloc, app, table, &mut made)?;
+    fold_rows(alloc, app, table, known, &mut made)?;
     Ok(made.edges)
 }
 
@@ -41,9 +56,9 @@ impl RowFold for EdgesOfRows {
         alloc: Global,
         _app: &App,
         point: Point,
-        groups: &[ExitGroup],
+        exits: &[BareExit],
     ) -> Result<(), Memory> {
-        let targets = targets(alloc, point, groups)?;
+        let targets = targets(alloc, point, exits)?;
         add_edges(&mut self.edges, point, targets.as_slice())?;
         Ok(())
     }

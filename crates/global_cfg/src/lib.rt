@@ -4,4 +4,4 @@
 mod graph;
 mod targets;
 
-pub use graph::edges;
+pub use graph::{edges, edges_with};

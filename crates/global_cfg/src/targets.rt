@@ -1,94 +1,55 @@
 //! The points to which edges lead from one point.
-ghost use Rattle.std.specs.Prelude.{◌≡◌, ◌∷◌, [], List, map, IfOk, OnOk};
+ghost use Rattle.std.specs.{Prelude.{◌≡◌, ◌∷◌, [], length, IfOk, OnOk}, Bool.{OnTrue}};
 ghost use Rattle.osek_standard.specs.Points.{point_number};
-ghost use Rattle.numbered_sets.specs.Pools.{Values};
-ghost use Rattle.point_exits.specs.Groups.{exits_of, all_exits};
-ghost use Rattle.table_rows.specs.Order.{AscendBy};
-ghost use Rattle.global_cfg.specs.Targets.{dispatches, leads, end_target, AreEndsPut, ArePutAfter};
+ghost use Rattle.table_rows.specs.Order.{AscendBy, IsGapBy};
+ghost use Rattle.global_cfg.specs.Targets.{dispatches, leads, AreEndsPut};
 
 use abstract_state::Point;
 use flow_model::Decision;
 use osek_values::Memory;
-use point_exits::{Ends, ExitGroup, NumberEnd};
 use std::alloc::Global;
-use table_rows::place_of;
+use table_rows::{BareExit, place_of};
 
-/// The points to which the exits of groups lead on from a point, in the order of the points.
-pub fn targets(alloc: Global, from: Point, groups: &[ExitGroup]) -> Result<Vec<Point>, Memory>
-    ensures { IfOk result (λ targets. (pool : List Values) → AreEndsPut from (all_exits pool groups.now) [] targets.items) }
+/// The points to which exits lead on from a point, in the order of the points.
+pub fn targets(alloc: Global, from: Point, exits: &[BareExit]) -> Result<Vec<Point>, Memory>
+    ensures { IfOk result (λ targets. AreEndsPut from exits.now [] targets.items) }
 {
     let mut targets = Vec::new(alloc);
-    for group in groups {
-        put_group(&mut targets, group, from)?;
+    for exit in exits {
+        put_target(&mut targets, *exit, from)?;
     }
     Ok(targets)
 }
 
-/// Puts in the targets of a group by whose exits control flow leads on.
-fn put_group(points: &mut Vec<Point>, group: &ExitGroup, from: Point) -> Result<(), Memory>
+/// Puts the target of an exit in at its place, if control flow leads on to it.
+fn put_target(points: &mut Vec<Point>, exit: BareExit, from: Point) -> Result<(), Memory>
     requires { AscendBy point_number points.old.items }
-    ensures { OnOk result ((pool : List Values) → AreEndsPut from (exits_of pool group.now) points.old.items points.new.items) }
+    ensures { OnOk result (AreEndsPut from (exit ∷ []) points.old.items points.new.items) }
 {
-    match &group.ends {
-        Ends::At(targets) => {
-            put_points(points, targets.as_slice(), group.decision, from)?;
-            Ok(())
-        }
-        Ends::With(ends) => {
-            put_ends(points, ends.as_slice(), group.decision, from)?;
-            Ok(())
-        }
-    }
-}
-
-fn put_points(
-    points: &mut Vec<Point>,
-    targets: &[Point],
-    decision: Option<Decision>,
-    from: Point,
-) -> Result<(), Memory>
-    requires { AscendBy point_number points.old.items }
-    ensures { OnOk result (ArePutAfter from decision targets.now points.old.items points.new.items) }
-{
-    for target in targets {
-        put_target(points, *target, decision, from)?;
-    }
-    Ok(())
-}
-
-fn put_ends(
-    points: &mut Vec<Point>,
-    ends: &[NumberEnd],
-    decision: Option<Decision>,
-    from: Point,
-) -> Result<(), Memory>
-    requires { AscendBy point_number points.old.items }
-    ensures { OnOk result (ArePutAfter from decision (map end_target ends.now) points.old.items points.new.items) }
-{
-    for end in ends {
-        put_target(points, end.target, decision, from)?;
-    }
-    Ok(())
-}
-
-/// Puts a target in at its place, if control flow leads on to it.
-fn put_target(
-    points: &mut Vec<Point>,
-    target: Point,
-    decision: Option<Decision>,
-    from: Point,
-) -> Result<(), Memory>
-    requires { AscendBy point_number points.old.items }
-    ensures { OnOk result (ArePutAfter from decision (target ∷ []) points.old.items points.new.items) }
-{
-    if !leads_on(target, decision, from) {
+    if !leads_on(exit.target, exit.decision, from) {
         return Ok(());
     }
-    let Err(gap) = place_of(points.as_slice(), target.number()) else {
+    // mostly no other stands above it, and none is looked for
+    if is_above(points.as_slice(), exit.target) {
+        points.push(exit.target)?;
+        return Ok(());
+    }
+    let Err(gap) = place_of(points.as_slice(), exit.target.number()) else {
         return Ok(());
     };
-    points.insert(gap, target)?;
+    points.insert(gap, exit.target)?;
     Ok(())
+}
+
+// whether a point stands above the last of points
+fn is_above(points: &[Point], point: Point) -> bool
+    requires { AscendBy point_number points.now }
+    ensures { OnTrue result (IsGapBy point_number points.now (point_number point) (length points.now)) }
+{
+    match points.last() {
+        None => true,
+        Some(last) => last.number() < point.number(),
+    }
 }
 
 /// Whether control flow leads on by a step from a point to a target. A dispatch at the same point is that of the task that ran

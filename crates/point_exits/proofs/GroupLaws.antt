@@ -1,7 +1,7 @@
 -- The exits of groups, one group after another.
-use Rattle.std.proofs.Common.{◌≡◌, ◌⊎◌, ℕ, ◌+◌, ◌<◌, List, [], ◌∷◌, ◌++◌, length, get_or, take, sym, ap, subst, ◌∙◌, inl, inr}
+use Rattle.std.proofs.Common.{◌≡◌, ◌⊎◌, List, [], ◌∷◌, ◌++◌, sym, ap, subst, ◌∙◌, inl, inr}
 use Rattle.std.specs.Prelude.{Contains}
-use Rattle.std.proofs.lemmas.{List.{append-nil, take_more, Elements.{Contains-append_left, Contains-append_right, Contains-append_cases, Contains-push_cases}}, Grind.{flat_map-append}}
+use Rattle.std.proofs.lemmas.{List.{append-nil, Elements.{Contains-append_left, Contains-append_right, Contains-append_cases, Contains-push_cases}}, Grind.{flat_map-append}}
 use Rattle.numbered_sets.specs.Pools.{Values}
 use Rattle.flow_exits.specs.declared.exit.Exit.{Exit}
 use Rattle.point_exits.specs.{declared.group.ExitGroup.{ExitGroup}, Groups.{exits_of, all_exits, IsKnownGroup, AreKnownGroups}}
@@ -21,7 +21,3 @@ module _ (pool : List Values) (before : List ExitGroup) (g : ExitGroup) where
 
   pub known_with : AreKnownGroups pool before → IsKnownGroup pool g → AreKnownGroups pool (before ++ g ∷ [])
   known_with old new h m = elim (Contains-push_cases before g h m) [ inl there ↦ old h there | inr same ↦ subst (IsKnownGroup pool) same new ]
-
--- one group more, in a loop over their list
-pub groups_more : (pool : List Values) (items : List ExitGroup) (i : ℕ) (x : ExitGroup) → i < length items → x ≡ get_or items i x → all_exits pool (take i items) ++ exits_of pool x ≡ all_exits pool (take (i + 1) items)
-groups_more pool items i x lt e = sym (exits_with pool (take i items) x) ∙ ap (all_exits pool) (ap (λ (y : ExitGroup). take i items ++ y ∷ []) e ∙ sym (take_more items i x lt))

@@ -1,16 +1,14 @@
 -- The blocks of a task's values, one block after another: those at a block are taken all at once.
-use Rattle.std.proofs.Common.{◌≡◌, ◌⊎◌, ℕ, ◌+◌, ◌<◌, ◌≤◌, Bool, true, false, ◌&&◌, not, List, [], ◌∷◌, ◌++◌, length, refl, sym, ap, ap₂, subst, ◌∙◌, inl, inr, arith, IsTrue}
-use Rattle.std.specs.Prelude.{Contains}
+use Rattle.std.proofs.Common.{◌≡◌, ◌⊎◌, ℕ, ◌+◌, ◌<◌, ◌≤◌, Bool, true, false, ◌&&◌, not, List, [], ◌∷◌, ◌++◌, refl, sym, ap, ap₂, subst, ◌∙◌, inl, inr, arith, IsTrue}
 use Rattle.std.proofs.lemmas.{Bool.{cases_eq, cases_lt}, List.Elements.{Contains-append_left, Contains-push, Contains-push_cases}}
 use Rattle.osek_standard.specs.declared.point.Point.{Point}
-use Rattle.osek_standard.proofs.Members.{contained_among}
 use Rattle.abstract_state.specs.declared.value.PartValue.{PartValue}
 use Rattle.flow_model.specs.{declared.runner.Runner.{Runner}, Runners.{component_of, runner_point}}
 use Rattle.numbered_sets.specs.{declared.numbered_entry.NumberedEntry.{NumberedEntry}, Numbers.{Numbers, has_number, other_numbers}, NumberedEntries.{numbers_at}}
-use Rattle.numbered_sets.specs.{Pools.{Values, values_at}, Views.{AreNumbersOf}}
+use Rattle.numbered_sets.specs.Pools.{Values, values_at}
 use Rattle.numbered_sets.proofs.{KeptLaws.{of_others}, MeetLaws.{has_other}}
 use Rattle.block_sets.specs.{declared.sets.BlockSet.{BlockSet}, AtBlocks.{IsBlockSet}}
-use Rattle.point_exits.specs.{declared.group.NumberEnd.{NumberEnd}, Deciding.{HasNumbersOf, HaveNumbersOf, IsNumberAt, block_with, AreBlockEnds}}
+use Rattle.point_exits.specs.{declared.group.NumberEnd.{NumberEnd}, Deciding.{HasNumbersOf, HaveNumbersOf, IsNumberAt, block_with}}
 use Rattle.point_exits.proofs.NumberLaws.{number_fills}
 
 -- ---- the numbers that are taken, and those that are left
@@ -61,19 +59,6 @@ module _ (pool : List Values) (entry : NumberedEntry) (r : Runner) where
     pub within : (n : ℕ) → IsTrue (has_number left n) → IsTrue (has_number (numbers_at entry c) n)
     pub whole : (n : ℕ) (d : PartValue) → IsTrue (has_number (numbers_at entry c) n) → IsTrue (has_number left n) ⊎ IsNumberAt xs (block_with pool r n d) n
     pub below : (n : ℕ) → n < k → has_number left n ≡ false
-
-  pub none_taken_yet : (k : ℕ) (left : Numbers) (xs : List NumberEnd) → xs ≡ [] → left ≡ numbers_at entry c → ((n : ℕ) → 0 ≤ n → n < k → has_number left n ≡ false) → AreTakenBlocks k left xs
-  none_taken_yet k left xs empty all none = record {
-    domain = ap (λ (x : Numbers). x.domain) all;
-    some = λ x m. absurd (nothing x m);
-    each = λ p n d at. absurd (nothing at.end at.listed);
-    within = λ n has. ap (λ (x : Numbers). has_number x n) (sym all) ∙ has;
-    whole = λ n d has. inl (ap (λ (x : Numbers). has_number x n) all ∙ has);
-    below = λ n lt. none n (omega arith) lt;
-  }
-    where
-      nothing : (x : NumberEnd) → Contains xs x → ⊥
-      nothing x m = contained_among [] x (subst (λ (ys : List NumberEnd). Contains ys x) empty m)
 
   -- those at one block are taken
   module _ (m k : ℕ) (left : Numbers) (xs : List NumberEnd) (here : BlockSet) (set : IsBlockSet (values_at pool c) here) (has : IsTrue (has_number left m)) (at : IsTrue (has_number here.numbers m))
@@ -131,13 +116,3 @@ module _ (pool : List Values) (entry : NumberedEntry) (r : Runner) where
             ap (λ (i : ℕ). record { component = i; numbers = numbers; target = target }) own
             ∙ ap (λ (x : Numbers). record { component = c; numbers = x; target = target }) (its ∙ ap (other_numbers left) others)
             ∙ ap (λ (p : Point). record { component = c; numbers = taken; target = p }) goes
-
-  pub all_taken : (k : ℕ) (left : Numbers) (xs : List NumberEnd) → length (values_at pool c) ≤ k → AreNumbersOf pool entry → AreTakenBlocks k left xs → AreBlockEnds pool entry r xs
-  all_taken k left xs all known h = record {
-    some = h.some;
-    each = h.each;
-    whole = λ n d has. elim (h.whole n d has) [
-      | inl was ↦ absurd (let lt = known.known c n has in let no = h.below n (omega (arith, lt, all)) in cc)
-      | inr at ↦ at
-    ];
-  }

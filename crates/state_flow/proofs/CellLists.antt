@@ -1,10 +1,10 @@
 -- Lists of cells: their order, and what a join leaves of them.
-use Rattle.std.proofs.Common.{◌≡◌, ◌⊎◌, ℕ, ◌+◌, ◌<◌, List, length, get_or, set, refl, sym, ap, subst, ◌∙◌, inl, inr, arith, get_or-set_same, get_or-set_other}
+use Rattle.std.proofs.Common.{◌≡◌, ◌⊎◌, ℕ, ◌+◌, ◌<◌, List, length, get_or, set, Some, refl, sym, ap, subst, ◌∙◌, inl, inr, arith, get_or-set_same, get_or-set_other}
 use Rattle.std.specs.{Prelude.{Contains}, List.{insert}}
 use Rattle.std.proofs.lemmas.{Bool.{cases_eq}, List.{length-set, get_or_default}}
 use Rattle.std.proofs.lemmas.List.{Elements.{Contains-get_or}, Edits.{length-insert}, Sums.{sum_by-set, sum_by-insert}}
 use Rattle.osek_standard.specs.{declared.point.Point.{Point}, Points.{point_number}}
-use Rattle.table_rows.specs.Order.{AscendBy, IsPlaceBy, IsGapBy}
+use Rattle.table_rows.specs.{declared.bare.BareExit.{BareExit}, Order.{AscendBy, IsPlaceBy, IsGapBy}}
 use Rattle.table_rows.proofs.{ListEdits.{insert_has, insert_stays, insert_place, insert_cases}, OrderLaws.{ascend_alike, place_alike, gap_alike, ascend_set, ascend_insert}}
 use Rattle.state_flow.specs.declared.cells.Cell.{Cell}
 use Rattle.state_flow.specs.Cells.{cell_number, reached_cell, AreCellsInOrder, WasEvaluatedWith, waits, MayJoin, HasAbove, IsRaised, IsJoined}
@@ -95,6 +95,18 @@ module _ {E : Type 0} (IsElement : E → Type 0) (AreAlike IsLower : E → E →
                 record { cell = old; among = among; at = sym raised.point ∙ ap (λ (y : Cell E). y.point) (sym e); evaluated = before })
             | inr stays ↦ record { cell = x; among = stays; at = refl; evaluated = was }
           ];
+          known = λ x h exits is. elim (set_cases cells place cell x h) [
+            | inl e ↦
+                (let before = raised.known exits (subst (λ (y : Cell E). y.exits ≡ Some exits) e is) in
+                record {
+                  cell = old;
+                  among = among;
+                  at = sym raised.point ∙ ap (λ (y : Cell E). y.point) (sym e);
+                  is = sym before.1 ∙ ap (λ (y : Cell E). y.entry) (sym e);
+                  knows = before.0;
+                })
+            | inr stays ↦ record { cell = x; among = stays; at = refl; is = refl; knows = is }
+          ];
           grows = λ x h. elim (set_stays cells place cell x h) [
             | inl e ↦
                 (let is : old ≡ x = get_or_default cells place cell x at.known ∙ e in
@@ -126,6 +138,10 @@ module _ {E : Type 0} (IsElement : E → Type 0) (AreAlike IsLower : E → E →
             | inl stays ↦ record { cell = x; among = stays; at = refl; evaluated = was }
             | inr e ↦ absurd (not_yet z (subst (λ (y : Cell E). WasEvaluatedWith y z) e was))
           ];
+          known = λ x h exits is. elim (insert_cases cells gap cell at.known x h) [
+            | inl stays ↦ record { cell = x; among = stays; at = refl; is = refl; knows = is }
+            | inr e ↦ absurd (none_yet exits (subst (λ (y : Cell E). y.exits ≡ Some exits) e is))
+          ];
           grows = λ x h. record { cell = x; among = insert_stays cells gap cell at.known x h; at = refl; above = itself x.entry };
           joins = record { cell = cell; among = has; at = refl; above = itself entry };
           from = λ x h. elim (insert_cases cells gap cell at.known x h) [
@@ -139,3 +155,6 @@ module _ {E : Type 0} (IsElement : E → Type 0) (AreAlike IsLower : E → E →
         not_yet : (z : E) → WasEvaluatedWith (reached_cell point entry) z → ⊥
         not_yet z (inl kept) = absurd (cc)
         not_yet z (inr own) = absurd (let idle = own.0 in cc)
+
+        none_yet : (exits : List BareExit) → (reached_cell point entry).exits ≡ Some exits → ⊥
+        none_yet exits is = absurd (cc)

@@ -13,7 +13,8 @@ use Rattle.abstract_state.specs.Regular.{IsRegular}
 use Rattle.abstract_state.proofs.{RegularLaws.{start_regular, step_regular}, ContainmentLaws.{in_larger}, AlikeLaws.{in_alike}, MarkLaws.{shown_silent}}
 use Rattle.flow_model.specs.Effects.{IsAt}
 use Rattle.numbered_sets.specs.PlainTables.{row_at}
-use Rattle.state_flow.specs.{declared.cells.Cell.{Cell}, Cells.{AreCellsInOrder, IsWaitingCell, NoneWaits, WasEvaluatedWith, cell_number, waits, waiting_count}}
+use Rattle.table_rows.specs.{declared.bare.BareExit.{BareExit}, BareExits.{AreBareExitsOf}}
+use Rattle.state_flow.specs.{declared.cells.Cell.{Cell}, Cells.{AreCellsInOrder, IsWaitingCell, NoneWaits, WasEvaluatedWith, cell_number, waits, waiting_count}, KnownCells.{KnowTheirExits}}
 use Rattle.point_exits.specs.Rows.{IsProperRow, IsRowIn}
 use Rattle.state_flow.specs.Rows.{row_of, sets_in}
 use Rattle.point_exits.specs.Starts.{IsStartRow}
@@ -56,33 +57,40 @@ module _ (app : App) where
     within = λ c lt. subst (λ (q : Point). IsTrue ((sets_in cells).has q c (abstract_of app s c))) (sym h.point) (cell_value cells cell c (abstract_of app s c) among (h.within c lt));
   }
 
--- the cell at a place, which doesn't wait any more, with what it keeps now
-abbrev pub evaluated : Cell PlainEntry → Option PlainEntry → Cell PlainEntry
-evaluated cell kept = record cell { waiting = false; before = kept }
+-- what exits a cell knows after a join, a cell of its row knew before
+known_after : (app : App) (cells : List (Cell PlainEntry)) (rows : List TableRow) (after : List (Cell PlainEntry)) → KnowTheirExits app cells → AreJoined app cells rows after → KnowTheirExits app after
+known_after app cells rows after know joined cell h exits is =
+    let old = joined.known cell h exits is in
+    let same : row_of old.cell ≡ row_of cell = λ i. record { point = old.at i; entry = old.is i } in
+    subst (λ (row : TableRow). AreBareExitsOf app row exits) same (know old.cell old.among exits old.knows)
 
-module _ (cells : List (Cell PlainEntry)) (place : ℕ) (cell : Cell PlainEntry) (known : place < length cells) (is : get_or cells place cell ≡ cell) (kept : Option PlainEntry) where
+-- the cell at a place, which doesn't wait any more, with what it keeps and the exits that it knows now
+abbrev pub evaluated : Cell PlainEntry → Option PlainEntry → Option (List BareExit) → Cell PlainEntry
+evaluated cell kept exits = record cell { waiting = false; before = kept; exits = exits }
+
+module _ (cells : List (Cell PlainEntry)) (place : ℕ) (cell : Cell PlainEntry) (known : place < length cells) (is : get_or cells place cell ≡ cell) (kept : Option PlainEntry) (exits : Option (List BareExit)) where
   -- it stands for the same row
-  pub same_rows : map row_of (set cells place (evaluated cell kept)) ≡ map row_of cells
+  pub same_rows : map row_of (set cells place (evaluated cell kept exits)) ≡ map row_of cells
   same_rows =
-      map-set row_of cells place (evaluated cell kept)
+      map-set row_of cells place (evaluated cell kept exits)
       ∙ ap (λ (row : TableRow). set (map row_of cells) place row) (ap row_of (sym is) ∙ sym (Rattle.std.proofs.lemmas.List.get_or-map row_of cells place cell (row_of cell) known))
       ∙ set-get_or (map row_of cells) place (row_of cell)
 
-  pub same_sets : sets_in (set cells place (evaluated cell kept)) ≡ sets_in cells
+  pub same_sets : sets_in (set cells place (evaluated cell kept exits)) ≡ sets_in cells
   same_sets = ap (λ (rows : List TableRow). sets_of (record { rows = rows })) same_rows
 
-  pub evaluated_proper : (app : App) → AreProperCells app cells → AreProperCells app (set cells place (evaluated cell kept))
+  pub evaluated_proper : (app : App) → AreProperCells app cells → AreProperCells app (set cells place (evaluated cell kept exits))
   evaluated_proper app proper_cells = record {
-    order = order_set cells proper_cells.order place (evaluated cell kept) known (ap cell_number (get_or_default cells place (evaluated cell kept) cell known ∙ is))
+    order = order_set cells proper_cells.order place (evaluated cell kept exits) known (ap cell_number (get_or_default cells place (evaluated cell kept exits) cell known ∙ is))
         (subst (λ (x : Cell PlainEntry). x.number ≡ cell_number x) is (proper_cells.order.told place cell known));
-    each = λ x h. elim (set_cases cells place (evaluated cell kept) x h) [
+    each = λ x h. elim (set_cases cells place (evaluated cell kept exits) x h) [
       | inl e ↦ subst (λ (y : Cell PlainEntry). IsProperRow app (row_of y)) (sym e) (proper_cells.each cell (place, known, is))
       | inr stays ↦ proper_cells.each x stays
     ];
   }
 
   module _ (app : App) (rows : List TableRow) (after : List (Cell PlainEntry)) (waiting : cell.waiting ≡ true) (as_is : ForSome kept (λ entry. entry ≡ cell.entry)) (for_cell : AreRowsOfCell app cell rows)
-      (done : AreEvaluated app rows (set cells place (evaluated cell kept)) after) where
+      (its_exits : ForSome exits (AreBareExitsOf app (row_of cell))) (done : AreEvaluated app rows (set cells place (evaluated cell kept exits)) after) where
     among : Contains cells cell
     among = (place, known, is)
 
@@ -105,7 +113,7 @@ module _ (cells : List (Cell PlainEntry)) (place : ℕ) (cell : Cell PlainEntry)
           ]
         ]
 
-    its_entry : (entry : PlainEntry) → WasEvaluatedWith (evaluated cell kept) entry → entry ≡ cell.entry
+    its_entry : (entry : PlainEntry) → WasEvaluatedWith (evaluated cell kept exits) entry → entry ≡ cell.entry
     its_entry entry (inl is_kept) = as_is entry is_kept
     its_entry entry (inr own) = sym own.1
 
@@ -113,7 +121,7 @@ module _ (cells : List (Cell PlainEntry)) (place : ℕ) (cell : Cell PlainEntry)
     closed_after n progress x h entry was =
         let old = done.joined.evaluated x h entry was in
         subst (λ (p : Point). LeadsInto app (sets_in after) p entry) old.at
-        (elim (set_cases cells place (evaluated cell kept) old.cell old.among) [
+        (elim (set_cases cells place (evaluated cell kept exits) old.cell old.among) [
           | inl e ↦
               (let same : entry ≡ cell.entry = its_entry entry (subst (λ (y : Cell PlainEntry). WasEvaluatedWith y entry) e old.evaluated) in
               subst (λ (y : Cell PlainEntry). LeadsInto app (sets_in after) y.point entry) (sym e) (subst (LeadsInto app (sets_in after) cell.point) (sym same) (leads_now n progress)))
@@ -132,19 +140,28 @@ module _ (cells : List (Cell PlainEntry)) (place : ℕ) (cell : Cell PlainEntry)
         let x = done.each row h in
         x.reached.least other inductive (has x.from x.among))
 
+    -- the exits that the cell knows now are those of its row
+    known_there : KnowTheirExits app cells → KnowTheirExits app (set cells place (evaluated cell kept exits))
+    known_there know x h xs is_known = elim (set_cases cells place (evaluated cell kept exits) x h) [
+      | inl e ↦
+          subst (λ (y : Cell PlainEntry). AreBareExitsOf app (row_of y) xs) (sym e) (its_exits xs (ap (λ (y : Cell PlainEntry). y.exits) (sym e) ∙ is_known))
+      | inr stays ↦ know x stays xs is_known
+    ]
+
     -- One evaluation: what the cell's new states lead to was joined in.
     pub progress_made : (n : ℕ) → Progress app cells n → Progress app after (n + 1)
     progress_made n progress =
         let joined = done.joined in
-        let fewer = sum_by-set waits cells place (evaluated cell kept) cell known in
-        let same = sum_by-set (λ (x : Cell PlainEntry). entry_values x.entry) cells place (evaluated cell kept) cell known in
+        let fewer = sum_by-set waits cells place (evaluated cell kept exits) cell known in
+        let same = sum_by-set (λ (x : Cell PlainEntry). entry_values x.entry) cells place (evaluated cell kept exits) cell known in
         let one : waits (get_or cells place cell) ≡ 1 = ap waits is ∙ (rw waiting refl) in
         let value : entry_values (get_or cells place cell).entry ≡ entry_values cell.entry = ap (λ (x : Cell PlainEntry). entry_values x.entry) is in
-        let long = length-set cells place (evaluated cell kept) in
+        let long = length-set cells place (evaluated cell kept exits) in
         record {
           cells_proper = joined.cells_proper;
           start = λ mode lt. in_larger app (sets_in cells) (sets_in after) (start app mode).state grown (progress.start mode lt);
           closed = closed_after n progress;
+          known = known_after app (set cells place (evaluated cell kept exits)) done.ends after (known_there progress.known) joined;
           least = least_after n progress;
           most = omega (arith, progress.most, joined.counts, fewer, same, one, value, long);
           fewest = omega (arith, progress.fewest, joined.sizes, fewer, one, long);
@@ -170,6 +187,7 @@ module _ (app : App) where
               subst (λ (m : ModeNo). In app (sets_in after) (start app m).state) modes there)
         ];
         fresh = λ cell h entry was. let old = joined.evaluated cell h entry was in so_far.fresh old.cell old.among entry old.evaluated;
+        known = known_after app cells (row ∷ []) after so_far.known joined;
         least = λ other inductive. joined.least other (so_far.least other inductive) (λ r h.
             subst (IsRowIn other) (ap (λ (n : ℕ). get_or (row ∷ []) n r) (only_place r h) ∙ h.2) (first.least other inductive));
         most = omega (arith, so_far.most, joined.counts);
@@ -184,6 +202,7 @@ module _ (app : App) where
     cells_proper = so_far.cells_proper;
     start = λ mode lt. so_far.start mode (omega (arith, lt, le));
     closed = λ cell h entry was. absurd (so_far.fresh cell h entry was);
+    known = so_far.known;
     least = so_far.least;
     most = omega (arith, so_far.most);
     fewest = omega (arith, so_far.fewest);
@@ -215,7 +234,7 @@ counted_at_end app cells n progress none = (omega (arith, progress.most, none_wa
 -- while a cell waits, fewer evaluations were made than cells and values there are
 pub room_left : (app : App) (cells : List (Cell PlainEntry)) (n place : ℕ) → Progress app cells n → IsWaitingCell cells place → n < length cells + values_in cells
 room_left app cells n place progress at =
-    let d : Cell PlainEntry = record { point = point.Halted; number = 0; waiting = false; entry = record { sets = [] }; before = None; growth = tt } in
+    let d : Cell PlainEntry = record { point = point.Halted; number = 0; waiting = false; entry = record { sets = [] }; before = None; exits = None; growth = tt } in
     let some = get_or-le-sum_by waits cells place d at.known in
     let one : waits (get_or cells place d) ≡ 1 = rw (at.waits d) refl in
     omega (arith, progress.most, some, one)

@@ -11,12 +11,13 @@ use Rattle.numbered_sets.specs.{Pools.{Values, values_at, pool_domains, IsLonger
 use Rattle.numbered_sets.proofs.{PlainLaws.{ascending_in_order, plain_set_at}, ViewLaws.{same_domains}, KnownNumbers.{order_onward}}
 use Rattle.numbered_sets.specs.PlainTables.{row_at}
 use Rattle.flow_exits.specs.{declared.exit.Exit.{Exit}, Exits.{AreExact}, Leaving.{AreExits}}
-use Rattle.flow_exits.proofs.Covering.{exits_cover, exits_shown}
+use Rattle.flow_exits.proofs.Covering.{exits_cover, exits_foresee, exits_shown}
 use Rattle.point_exits.specs.declared.group.{NumberEnd.{NumberEnd}, Ends.{Ends}, ExitGroup.{ExitGroup}}
 use Rattle.point_exits.specs.declared.group.Ends.TheVariants as ends
 use Rattle.point_exits.specs.Groups.{with_end, exits_by, exits_of, all_exits, AreKnownEnds, AreKnownGroups}
 use Rattle.point_exits.proofs.{GrowingPools.{end_known}, EntryCounts.{filled_numbers, numbers_counted}, NumberLaws.{filled_plain}, ProperRows.{proper_row}}
 use Rattle.point_exits.specs.Rows.{IsProperRow}
+use Rattle.table_rows.specs.{declared.bare.BareExit.{BareExit}, BareExits.{AreBare, AreBareExitsOf}}
 use Rattle.state_flow.specs.{Reaching.{Leads}, Parts.{IsPartRow}, Numbering.{IsKnownRow}}
 use Rattle.state_flow.proofs.ExitRows.{exits_lead, exit_row_proper}
 use Rattle.state_flow.specs.ExitRows.{all_rows, AreProperRows}
@@ -83,6 +84,18 @@ module _ (app : App) (masks : HasMasks app) (p : Point) (pool : List Values) (en
 
     exact : AreExact app p (plain_entry pool entry) (all_exits after groups)
     exact = exits_shown app p (plain_entry pool entry) (all_exits after groups) proper.row.point are proper.allowed
+
+    -- without their values they are what is known of the row's exits
+    pub exits_known : (bare : List BareExit) → AreBare (all_exits after groups) bare → AreBareExitsOf app (row_at p (plain_entry pool entry)) bare
+    exits_known bare are_bare = record {
+      whole = all_exits after groups;
+      are = record {
+        steps = exits_cover app p (plain_entry pool entry) (all_exits after groups) proper.row.point are;
+        instructions = exits_foresee app p (plain_entry pool entry) (all_exits after groups) proper.row.point are;
+        exact = exact;
+      };
+      bare = are_bare;
+    }
 
     pub rows_lead : Leads app p (plain_entry pool entry) (all_rows after groups)
     rows_lead = subst (Leads app p (plain_entry pool entry)) (rows_of_exits after groups)

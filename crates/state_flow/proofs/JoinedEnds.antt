@@ -84,6 +84,7 @@ module _ (app : App) (pool : List Values) (entry : NumberedEntry) (xs : List Num
         joined = record {
           cells_proper = j.cells_proper;
           evaluated = j.evaluated;
+          known = j.known;
           grows = j.grows;
           joins = λ row m.
               (let x = map_among (end_row pool entry) row xs (contained_among (rows_with pool entry xs) row m) in

@@ -85,6 +85,7 @@ module _ (app : App) (cells : List (Cell PlainEntry)) (row : TableRow) (proper_c
     joined_one = record {
       cells_proper = record { order = joined.order; each = proper_after };
       evaluated = joined.evaluated;
+      known = joined.known;
       grows = cells_contained cells (sets_in after) (λ cell h. lower_in cell.point cell.entry (joined.grows cell h));
       joins = λ other h. subst (IsRowIn (sets_in after)) (row_is other h) (lower_in row.point row.entry joined.joins);
       least = λ other old new. cells_contained after other (cell_least other old (new row (Contains-push [] row)));
@@ -97,6 +98,7 @@ module _ (app : App) where
   joined_none cells proper_cells = record {
     cells_proper = proper_cells;
     evaluated = λ cell h entry was. record { cell = cell; among = h; at = refl; evaluated = was };
+    known = λ cell h exits is. record { cell = cell; among = h; at = refl; is = refl; knows = is };
     grows = contained_itself (sets_in cells);
     joins = λ row h. absurd (omega (arith, h.1));
     least = λ other old new. old;
@@ -111,6 +113,10 @@ module _ (app : App) where
         (let then = more.evaluated cell h entry was in
         let old = so_far.evaluated then.cell then.among entry then.evaluated in
         record { cell = old.cell; among = old.among; at = old.at ∙ then.at; evaluated = old.evaluated });
+    known = λ cell h exits is.
+        (let then = more.known cell h exits is in
+        let old = so_far.known then.cell then.among exits then.knows in
+        record { cell = old.cell; among = old.among; at = old.at ∙ then.at; is = old.is ∙ then.is; knows = old.knows });
     grows = contained_onward (sets_in cells) (sets_in now) (sets_in after) so_far.grows more.grows;
     joins = λ other h. elim (among_cases other first next (contained_among (first ++ next) other h)) [
       | inl old ↦ contained_row (sets_in now) (sets_in after) other more.grows (so_far.joins other (among_contained first other old))

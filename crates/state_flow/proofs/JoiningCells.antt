@@ -69,13 +69,13 @@ module _ (pool : List Values) (cells after : List (Cell NumberedEntry)) (point :
     order = record {
       told = λ k d lt.
           (let long = length-map after (plain_cell pool) in
-          let some : Cell NumberedEntry = record { point = d.point; number = 0; waiting = false; entry = entry; before = None; growth = tt } in
+          let some : Cell NumberedEntry = record { point = d.point; number = 0; waiting = false; entry = entry; before = None; exits = None; growth = tt } in
           let below : k < length after = omega (arith, lt, long) in
           subst (λ (x : Cell PlainEntry). x.number ≡ cell_number x) (sym (plain_at k d some below)) (h.order.told k some below));
       ascend = record {
         before = λ i j d lt known_place.
             (let long = length-map after (plain_cell pool) in
-            let some : Cell NumberedEntry = record { point = d.point; number = 0; waiting = false; entry = entry; before = None; growth = tt } in
+            let some : Cell NumberedEntry = record { point = d.point; number = 0; waiting = false; entry = entry; before = None; exits = None; growth = tt } in
             let first = number_at i d some (omega (arith, lt, known_place, long)) in
             let second = number_at j d some (omega (arith, known_place, long)) in
             let numbered = h.order.ascend.before i j some lt (omega (arith, known_place, long)) in
@@ -91,6 +91,16 @@ module _ (pool : List Values) (cells after : List (Cell NumberedEntry)) (point :
           among = among_plain pool cells old.cell old.among;
           at = old.at ∙ ap (λ (y : Cell PlainEntry). y.point) (sym o.is);
           evaluated = subst (WasEvaluatedWith (plain_cell pool old.cell)) x.2 (plain_was pool old.cell x.0 old.evaluated);
+        });
+    known = λ cell m exits is.
+        (let o = origin pool after cell m in
+        let old = h.known o.numbered o.among exits (ap (λ (y : Cell PlainEntry). y.exits) (sym o.is) ∙ is) in
+        record {
+          cell = plain_cell pool old.cell;
+          among = among_plain pool cells old.cell old.among;
+          at = old.at ∙ ap (λ (y : Cell PlainEntry). y.point) (sym o.is);
+          is = ap (plain_entry pool) old.is ∙ ap (λ (y : Cell PlainEntry). y.entry) (sym o.is);
+          knows = old.knows;
         });
     grows = λ cell m.
         (let o = origin pool cells cell m in

@@ -11,6 +11,7 @@ use Rattle.numbered_sets.proofs.{ViewLaws.{same_view, still_known, same_heights,
 use Rattle.numbered_sets.specs.PlainTables.{row_at, plain_row, plain_rows}
 use Rattle.state_flow.specs.{declared.cells.Cell.{Cell}, Cells.{cell_number, AreCellsInOrder, IsWaitingCell, NoneWaits, MayJoin, IsJoined}}
 use Rattle.point_exits.specs.Rows.{IsProperRow}
+use Rattle.table_rows.specs.{declared.bare.BareExit.{BareExit}, BareExits.{AreBareExitsOf}}
 use Rattle.state_flow.specs.Progress.{AreProperCells, AreJoined}
 use Rattle.state_flow.proofs.{CellLists.{set_cases}, JoinedRows.{may_join, joined_one}, Closing.{evaluated, evaluated_proper, progress_made}}
 use Rattle.state_flow.specs.{PlainCells.{plain_cell, plain_cells, AreCellsOf}, Numbering.{AreNumberedCells, AreEvaluated, IsKnownRow, HasProgress}, Parts.{AreRowsBeside}}
@@ -40,14 +41,14 @@ pub waits_plain : (pool : List Values) (cells : List (Cell NumberedEntry)) (plac
 waits_plain pool cells place h = record {
   known = (let long = length-map cells (plain_cell pool) in omega (arith, h.known, long));
   waits = λ d.
-      (let some : Cell NumberedEntry = record { point = d.point; number = 0; waiting = false; entry = record { sets = [] }; before = None; growth = tt } in
+      (let some : Cell NumberedEntry = record { point = d.point; number = 0; waiting = false; entry = record { sets = [] }; before = None; exits = None; growth = tt } in
       ap (λ (x : Cell PlainEntry). x.waiting) (plain_at pool cells place d some h.known) ∙ h.waits some);
 }
 
 pub none_waits_plain : (pool : List Values) (cells : List (Cell NumberedEntry)) → NoneWaits cells → NoneWaits (plain_cells pool cells)
 none_waits_plain pool cells h k d lt =
     let long = length-map cells (plain_cell pool) in
-    let some : Cell NumberedEntry = record { point = d.point; number = 0; waiting = false; entry = record { sets = [] }; before = None; growth = tt } in
+    let some : Cell NumberedEntry = record { point = d.point; number = 0; waiting = false; entry = record { sets = [] }; before = None; exits = None; growth = tt } in
     let below : k < length cells = omega (arith, lt, long) in
     ap (λ (x : Cell PlainEntry). x.waiting) (plain_at pool cells k d some below) ∙ h k some below
 
@@ -80,6 +81,7 @@ cell_same pool after cell longer known kept = λ i. record {
   waiting = cell.waiting;
   entry = same_view pool after cell.entry longer known i;
   before = kept_same pool after cell.before longer kept i;
+  exits = cell.exits;
   growth = tt;
 }
 
@@ -118,8 +120,8 @@ known_still app pool after row longer h = record {
 pub lent_there : (cells : List (Cell NumberedEntry)) (place : ℕ) (own lent : Cell NumberedEntry) → own ≡ lent → own ≡ get_or cells place own → get_or cells place lent ≡ lent
 lent_there cells place own lent same there = subst (λ (x : Cell NumberedEntry). get_or cells place x ≡ x) same (sym there)
 
-abbrev pub asked : Cell NumberedEntry → Option NumberedEntry → Cell NumberedEntry
-asked cell kept = record cell { waiting = false; before = kept }
+abbrev pub asked : Cell NumberedEntry → Option NumberedEntry → Option (List BareExit) → Cell NumberedEntry
+asked cell kept exits = record cell { waiting = false; before = kept; exits = exits }
 
 pub nothing_kept : (cell : Cell NumberedEntry) → ForSome None (λ (x : NumberedEntry). x ≡ cell.entry)
 nothing_kept cell x is_kept = absurd (cc)
@@ -149,38 +151,42 @@ module _ (app : App) (pool : List Values) (cells : List (Cell NumberedEntry)) (p
       let same : number_domains x ≡ number_domains cell.entry = (kept_there x is_kept).domains ∙ sym numbers_there.domains in
       sym (length-map x.sets (λ (y : Numbers). y.domain)) ∙ ap (λ (ds : List Domain). length ds) same ∙ length-map cell.entry.sets (λ (y : Numbers). y.domain)
 
-  -- the cell keeps its own entry, or none
-  module _ (kept : Option NumberedEntry) (as_is : ForSome kept (λ x. x ≡ cell.entry)) where
-    asked_known : AreCellsOf pool (set cells place (asked cell kept))
+  -- the exits that it knows are those of its row
+  pub exits_there : (n : ℕ) → HasProgress app pool cells n → ForSome cell.exits (AreBareExitsOf app (row_at cell.point (plain_entry pool cell.entry)))
+  exits_there n progress = progress.progress.known (plain_cell pool cell) (among_plain pool cells cell among)
+
+  -- the cell keeps its own entry, or none, and knows these exits, or none
+  module _ (kept : Option NumberedEntry) (as_is : ForSome kept (λ x. x ≡ cell.entry)) (exits : Option (List BareExit)) where
+    asked_known : AreCellsOf pool (set cells place (asked cell kept exits))
     asked_known = record {
-      each = λ x m. elim (set_cases cells place (asked cell kept) x m) [
+      each = λ x m. elim (set_cases cells place (asked cell kept exits) x m) [
         | inl new ↦ subst (λ (y : Cell NumberedEntry). AreNumbersOf pool y.entry) (sym new) numbers_there
         | inr old ↦ numbered.known.each x old
       ];
-      before = λ x m e is_kept. elim (set_cases cells place (asked cell kept) x m) [
+      before = λ x m e is_kept. elim (set_cases cells place (asked cell kept exits) x m) [
         | inl new ↦ subst (AreNumbersOf pool) (sym (as_is e (ap (λ (y : Cell NumberedEntry). y.before) (sym new) ∙ is_kept))) numbers_there
         | inr old ↦ numbered.known.before x old e is_kept
       ];
     }
 
-    asked_same : plain_cells pool (set cells place (asked cell kept)) ≡ set (plain_cells pool cells) place (evaluated (plain_cell pool cell) (option_map (plain_entry pool) kept))
-    asked_same = map-set (plain_cell pool) cells place (asked cell kept)
+    asked_same : plain_cells pool (set cells place (asked cell kept exits)) ≡ set (plain_cells pool cells) place (evaluated (plain_cell pool cell) (option_map (plain_entry pool) kept) exits)
+    asked_same = map-set (plain_cell pool) cells place (asked cell kept exits)
 
-    pub asked_cells : AreNumberedCells app pool (set cells place (asked cell kept))
+    pub asked_cells : AreNumberedCells app pool (set cells place (asked cell kept exits))
     asked_cells = record {
       known = asked_known;
-      proper = subst (AreProperCells app) (sym asked_same) (evaluated_proper (plain_cells pool cells) place (plain_cell pool cell) plain_known plain_is (option_map (plain_entry pool) kept) app numbered.proper);
+      proper = subst (AreProperCells app) (sym asked_same) (evaluated_proper (plain_cells pool cells) place (plain_cell pool cell) plain_known plain_is (option_map (plain_entry pool) kept) exits app numbered.proper);
     }
 
     pub progress_on : (rows : List NumberedRow) (after : List Values) (end : List (Cell NumberedEntry)) → AreCellsOf after end → AreRowsBeside cell.point cell.entry cell.before rows
-        → AreEvaluated app (plain_rows pool rows) (plain_cells pool (set cells place (asked cell kept))) (plain_cells after end) → (n : ℕ) → HasProgress app pool cells n → HasProgress app after end (n + 1)
-    progress_on rows after end known beside h n progress = record {
+        → ForSome exits (AreBareExitsOf app (row_at cell.point (plain_entry pool cell.entry))) → AreEvaluated app (plain_rows pool rows) (plain_cells pool (set cells place (asked cell kept exits))) (plain_cells after end) → (n : ℕ) → HasProgress app pool cells n → HasProgress app after end (n + 1)
+    progress_on rows after end known beside its_exits h n progress = record {
       known = known;
       progress =
-          progress_made (plain_cells pool cells) place (plain_cell pool cell) plain_known plain_is (option_map (plain_entry pool) kept) app (plain_rows pool rows) (plain_cells after end)
+          progress_made (plain_cells pool cells) place (plain_cell pool cell) plain_known plain_is (option_map (plain_entry pool) kept) exits app (plain_rows pool rows) (plain_cells after end)
           (sym (ap (λ (x : Cell NumberedEntry). x.waiting) is) ∙ waits.waits cell)
           (λ z e. let x = some_of_map (plain_entry pool) kept z e in sym x.2 ∙ ap (plain_entry pool) (as_is x.0 x.1))
-          (rows_of_cell app pool cell rows (sym (same_domains pool 0 cell.entry.sets) ∙ proper_there.row.domains) numbers_there kept_there beside)
+          (rows_of_cell app pool cell rows (sym (same_domains pool 0 cell.entry.sets) ∙ proper_there.row.domains) numbers_there kept_there beside) its_exits
           (subst (λ (xs : List (Cell PlainEntry)). AreEvaluated app (plain_rows pool rows) xs (plain_cells after end)) asked_same h) n progress.progress;
     }
 

@@ -115,4 +115,5 @@ module _ (pool : List Values) (cell after : Cell NumberedEntry) (entry : Numbere
     stays = h.stays;
     counts = (let old = same_count pool cell.entry all known in let new = same_count pool after.entry all raised_known in omega (arith, old, new, h.counts));
     evaluated = λ z was. let x = numbered_was pool after z was in subst (WasEvaluatedWith (plain_cell pool cell)) x.2 (plain_was pool cell x.0 (h.evaluated x.0 x.1));
+    known = λ exits is. let before = h.known exits is in (before.0, ap (plain_entry pool) before.1);
   }

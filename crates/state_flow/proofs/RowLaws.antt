@@ -85,7 +85,7 @@ abbrev numbers : List (Cell PlainEntry) → List ℕ
 numbers cells = map (λ (row : TableRow). point_number row.point) (map row_of cells)
 
 abbrev no_cell : Cell PlainEntry
-no_cell = record { point = point.Halted; number = 0; waiting = false; entry = record { sets = [] }; before = None; growth = tt }
+no_cell = record { point = point.Halted; number = 0; waiting = false; entry = record { sets = [] }; before = None; exits = None; growth = tt }
 
 pub numbers_long : (cells : List (Cell PlainEntry)) → length (numbers cells) ≡ length cells
 numbers_long cells = length-map (map row_of cells) (λ (row : TableRow). point_number row.point) ∙ length-map cells row_of

@@ -1,7 +1,7 @@
 -- Points that were reached, with what is known of each, in the order of the points.
 use Rattle.std.specs.Prelude.{◌≡◌, ◌⊎◌, ℕ, ◌+◌, ◌<◌, ◌≤◌, true, false, Some, None, List, length, slice_index_or, sum_by, if◌then◌else◌, Contains}
 use Rattle.osek_standard.specs.{declared.point.Point.{Point}, Points.{point_number}}
-use Rattle.table_rows.specs.Order.{AscendBy}
+use Rattle.table_rows.specs.{declared.bare.BareExit.{BareExit}, Order.{AscendBy}}
 use Rattle.state_flow.specs.declared.cells.Cell.{Cell}
 
 module _ {E : Type 0} where
@@ -10,7 +10,7 @@ module _ {E : Type 0} where
 
   -- that of a point that was reached just now: it waits, and wasn't evaluated yet
   abbrev pub reached_cell : Point → E → Cell E
-  reached_cell point entry = record { point = point; number = point_number point; waiting = true; entry = entry; before = None; growth = tt }
+  reached_cell point entry = record { point = point; number = point_number point; waiting = true; entry = entry; before = None; exits = None; growth = tt }
 
   -- in the order of their points, none twice, and each tells its point's number
   pub record AreCellsInOrder (cells : List (Cell E)) : Type 0 where
@@ -38,6 +38,14 @@ module _ {E : Type 0} where
     pub among : Contains cells cell
     pub at : cell.point ≡ point
     pub evaluated : WasEvaluatedWith cell entry
+
+  -- a cell of the point has the entry, and knows these exits
+  pub record HasKnown (cells : List (Cell E)) (point : Point) (entry : E) (exits : List BareExit) : Type 0 where
+    pub cell : Cell E
+    pub among : Contains cells cell
+    pub at : cell.point ≡ point
+    pub is : cell.entry ≡ entry
+    pub knows : cell.exits ≡ Some exits
 
   abbrev pub waits : Cell E → ℕ
   waits cell = if cell.waiting then 1 else 0
@@ -70,7 +78,7 @@ pub record HasAbove {E : Type 0} (IsLower : E → E → Type 0) (cells : List (C
 
 -- in the words of a lattice
 module _ {E : Type 0} (IsElement : E → Type 0) (AreAlike IsLower : E → E → Type 0) (rank : E → ℕ) where
-  -- An entry was joined to the cell's. The cell waits where it grew.
+  -- An entry was joined to the cell's. The cell waits where it grew, and knows exits only where it didn't.
   pub record IsRaised (cell : Cell E) (entry : E) (after : Cell E) : Type 0 where
     pub point : after.point ≡ cell.point
     pub number : after.number ≡ cell.number
@@ -82,6 +90,7 @@ module _ {E : Type 0} (IsElement : E → Type 0) (AreAlike IsLower : E → E →
     pub stays : waits cell ≤ waits after
     pub counts : waits after + rank cell.entry ≤ waits cell + rank after.entry
     pub evaluated : (e : E) → WasEvaluatedWith after e → WasEvaluatedWith cell e
+    pub known : (exits : List BareExit) → after.exits ≡ Some exits → (cell.exits ≡ Some exits) × (after.entry ≡ cell.entry)
 
   -- it is a cell of the point to whose entry this one was joined
   pub record IsRaisedCell (cells : List (Cell E)) (point : Point) (entry : E) (cell : Cell E) : Type 0 where
@@ -91,10 +100,12 @@ module _ {E : Type 0} (IsElement : E → Type 0) (AreAlike IsLower : E → E →
     pub raised : IsRaised old entry cell
 
   -- The entry was joined to the cell of its point, or stands in a new one; the other cells stay. What a point was evaluated
-  -- with it was evaluated with before, and no more cells are to be evaluated than cells and values came in.
+  -- with it was evaluated with before, what exits a cell knows it knew before with the same entry, and no more cells are to be
+  -- evaluated than cells and values came in.
   pub record IsJoined (cells : List (Cell E)) (point : Point) (entry : E) (after : List (Cell E)) : Type 0 where
     pub order : AreCellsInOrder after
     pub evaluated : (cell : Cell E) → Contains after cell → (e : E) → WasEvaluatedWith cell e → HasEvaluated cells cell.point e
+    pub known : (cell : Cell E) → Contains after cell → (exits : List BareExit) → cell.exits ≡ Some exits → HasKnown cells cell.point cell.entry exits
     pub grows : (cell : Cell E) → Contains cells cell → HasAbove IsLower after cell.point cell.entry
     pub joins : HasAbove IsLower after point entry
     pub from : (cell : Cell E) → Contains after cell → Contains cells cell ⊎ (IsNewCell point entry cell ⊎ IsRaisedCell cells point entry cell)

@@ -2,6 +2,7 @@ pub mod EntryOrder
 pub mod NumberOrder
 pub mod Cells
 pub mod Rows
+pub mod KnownCells
 pub mod Parts
 pub mod Reaching
 pub mod Progress

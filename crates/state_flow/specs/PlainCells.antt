@@ -11,6 +11,7 @@ plain_cell pool cell = record {
   waiting = cell.waiting;
   entry = plain_entry pool cell.entry;
   before = option_map (plain_entry pool) cell.before;
+  exits = cell.exits;
   growth = tt;
 }
 

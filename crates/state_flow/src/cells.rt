@@ -6,9 +6,9 @@ use crate::agenda::{Agenda, Growth, Urgent};
 use crate::kept::Kept;
 use crate::lattice::Lattice;
 use osek_standard::Point;
-use osek_values::Memory;
+use osek_values::{Memory, Seq};
 use std::alloc::Global;
-use table_rows::{Keyed, place_of};
+use table_rows::{BareExit, Keyed, place_of};
 
 /// A point that was reached, and what the states there can be like.
 #[derive(Drop)]
@@ -21,6 +21,8 @@ pub struct Cell<E> {
     pub entry: E,
     /// What the entry was when the point was last evaluated, where that is kept.
     pub before: Option<Kept<E>>,
+    /// The exits of the states there, where the point was evaluated with all its values and none came in since.
+    pub exits: Option<Seq<BareExit>>,
     pub growth: Growth,
 }
 
@@ -41,6 +43,7 @@ impl<E: Lattice + Drop> Cell<E> {
                 waiting: true,
                 entry,
                 before: None,
+                exits: None,
                 growth: Growth::new(),
             },
         )
@@ -63,6 +66,7 @@ impl<E: Lattice> Cell<E> {
             return Ok(None);
         }
         self.waiting = true;
+        self.exits = None;
         if !self.growth.add(added) {
             return Ok(None);
         }

@@ -12,6 +12,7 @@ use numbered_sets::{NumberedEntry, NumberedRow};
 use osek_values::Memory;
 use point_exits::{Numbering, exit_groups};
 use std::alloc::Global;
+use table_rows::bare_exits;
 
 /// Evaluates a point that waits, and joins in what it leads to. The numbering grows by the values that it lacks.
 pub fn turn(
@@ -88,6 +89,7 @@ fn evaluate_whole(
     cell.growth.evaluate();
     let app = numbering.app;
     let groups = exit_groups(alloc, numbering, cell.point, &cell.entry)?;
+    cell.exits = Some(bare_exits(alloc, groups.as_slice())?);
     join_groups(alloc, app, groups, &numbering.pool, cells)
 }
 

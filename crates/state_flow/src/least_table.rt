@@ -3,6 +3,7 @@ ghost use Rattle.std.specs.Prelude.{◌≡◌, ◌+◌, ◌*◌, ◌<◌, ◌≤
 ghost use Rattle.osek_standard.specs.Counts.{points, height};
 ghost use Rattle.abstract_state.specs.{Domains.{HasMasks, domains as domains_of_entry, domains_of}, Tables.{Least, sets_of, value_count}, Written.{IsWritten}};
 ghost use Rattle.numbered_sets.specs.Pools.{pool_domains, IsLonger};
+ghost use Rattle.table_rows.specs.BareExits.{AreKnownExits};
 ghost use Rattle.state_flow.specs.{Cells.{IsWaitingCell}, Progress.{Progress}, PlainCells.{plain_cells, AreCellsOf}, Numbering.{AreNumberedCells, HasProgress}};
 
 use crate::cells::Cells;
@@ -11,10 +12,19 @@ use crate::numbered_cells::{put_in, rows};
 use abstract_state::{Domain, LiveVal, PartValue, PlainEntry, Val, masks_are_few};
 use numbered_sets::{NumberedEntry, Pool, Table, numbered};
 use osek_standard::App;
-use osek_values::{BlockNo, Held, Memory, ModeNo, Steps};
+use osek_values::{BlockNo, Held, Memory, ModeNo, Seq, Steps};
 use point_exits::{Numbering, start_row};
 use std::alloc::Global;
 use std::sync::ledger::Ledger;
+use table_rows::PointExits;
+
+/// The least table, and the exits of those of its points that were evaluated last with all their values, in the order of the
+/// points.
+#[derive(Drop)]
+pub struct Explored {
+    pub table: Table,
+    pub exits: Seq<PointExits>,
+}
 
 /// The least table: the starts are in it, each step from a state in it leads to one in it, and every such table contains
 /// it. A step is counted for each evaluation of a point.
@@ -27,6 +37,26 @@ pub fn solve<L: Ledger>(alloc: Global, app: &App, steps: &mut Steps<L>) -> Resul
     ensures few { IfOk result (λ table. steps.new ≤ steps.old + points app.now + value_count table) }
     ensures rise { steps.old ≤ steps.new }
 {
+    let explored = explore(alloc, app, steps)?;
+    Ok(explored.table)
+}
+
+/// The least table with the exits that are known of its points, so that they needn't be evaluated again. A step is counted for
+/// each evaluation of a point.
+pub fn explore<L: Ledger>(
+    alloc: Global,
+    app: &App,
+    steps: &mut Steps<L>,
+) -> Result<Explored, Memory>
+    ensures written { IfOk result (λ x. IsWritten app.now x.table) }
+    ensures least { IfOk result (λ x. Least app.now (sets_of x.table)) }
+    ensures values { IfOk result (λ x. value_count x.table ≤ points app.now * height app.now) }
+    // each row was evaluated at least once, and again at most as often as values came in
+    ensures each_once { IfOk result (λ x. steps.old + length x.table.rows ≤ steps.new) }
+    ensures few { IfOk result (λ x. steps.new ≤ steps.old + points app.now + value_count x.table) }
+    ensures rise { steps.old ≤ steps.new }
+    ensures exits { IfOk result (λ x. AreKnownExits app.now x.table.rows x.exits) }
+{
     masks_are_few(app);
     let mut pool = pool_of(alloc, app)?;
     let mut cells = started(alloc, app, &mut pool)?;
@@ -35,8 +65,11 @@ pub fn solve<L: Ledger>(alloc: Global, app: &App, steps: &mut Steps<L>) -> Resul
         steps.tick();
         turn(alloc, &mut numbering, &mut cells, place)?;
     }
-    let rows = rows(alloc, cells)?;
-    Ok(Table::of(numbering.pool, rows))
+    let known = rows(alloc, cells)?;
+    Ok(Explored {
+        table: Table::of(numbering.pool, known.rows),
+        exits: known.exits,
+    })
 }
 
 /// A pool for the application's components. The values of a task that holds nothing have the first numbers: they stand in most

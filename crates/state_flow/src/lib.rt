@@ -16,4 +16,4 @@ mod parts;
 
 pub use counts::values;
 pub use lattice::Lattice;
-pub use least_table::solve;
+pub use least_table::{Explored, explore, solve};

@@ -5,8 +5,9 @@ use Rattle.osek_standard.specs.declared.app.App.{App}
 use Rattle.abstract_state.specs.{declared.table.{TableRow.{TableRow}, PlainTable.{PlainTable}}, Written.{IsWritten}}
 use Rattle.numbered_sets.specs.{declared.table.NumberedRow.{NumberedRow}, Pools.{Values, IsLonger}, PlainTables.{plain_row, AreRowsFor}}
 use Rattle.numbered_sets.proofs.{RowsByNumber.{as_many, row_is, row_listed}, WrittenRows.{row_number, rows_ascend}}
-use Rattle.point_exits.specs.{declared.group.ExitGroup.{ExitGroup}, Groups.{all_exits}, Rows.{IsProperRow}}
-use Rattle.table_rows.specs.{Folds.{IsNextRow}, Rows.{AreRowsFrom, AreExitsOf}}
+use Rattle.point_exits.specs.Rows.{IsProperRow}
+use Rattle.table_rows.specs.declared.bare.{BareExit.{BareExit}, PointExits.{PointExits}}
+use Rattle.table_rows.specs.{BareExits.{AreBareExitsOf, AreKnownExits}, Folds.{IsNextRow}, Rows.{AreRowsFrom}}
 use Rattle.table_rows.proofs.TableRows.{row_proper}
 
 -- rows for those of a written table are rows from one
@@ -31,15 +32,18 @@ module _ (app : App) (table : PlainTable) (written : IsWritten app table) (first
   pub row_taken : take i table.rows ++ plain_row pool row ∷ [] ≡ take (i + 1) table.rows
   row_taken = ap (λ (x : TableRow). take i table.rows ++ x ∷ []) same_row ∙ sym (take_more table.rows i (plain_row pool row) there)
 
-  pub next_row : (after : List Values) (groups : List ExitGroup) → AreExitsOf app (plain_row pool row) (all_exits after groups)
-      → IsNextRow app (take i table.rows) (plain_row pool row) groups
-  next_row after groups exits = record {
+  pub known_exits : (known : List PointExits) → AreKnownExits app table.rows known
+      → (place : ℕ) (x : PointExits) → place < length known → x ≡ get_or known place x → x.point ≡ row.point → AreBareExitsOf app (plain_row pool row) x.exits
+  known_exits known are_known place x low at point =
+      are_known x (plain_row pool row) (place, low, sym at) (row_listed table.rows first rows are pool longer i row lt is) (sym point)
+
+  pub next_row : (exits : List BareExit) → AreBareExitsOf app (plain_row pool row) exits → IsNextRow app (take i table.rows) (plain_row pool row) exits
+  next_row exits its_exits = record {
     above = λ x h.
         (let low : h.0 < i = omega (arith, h.1, length-take i table.rows) in
         let its = plain_row pool row in
         let at : get_or table.rows h.0 its ≡ x =
         get_or_default table.rows h.0 its x (omega (arith, low, there)) ∙ sym (get_or-take i table.rows h.0 x low) ∙ h.2 in
         omega (arith, rows_ascend app table written h.0 i its low there, ap row_number at, ap row_number same_row));
-    pool = after;
-    exits = exits;
+    are = its_exits;
   }

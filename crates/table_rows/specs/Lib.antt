@@ -1,3 +1,4 @@
+pub mod BareExits
 pub mod Folds
 pub mod Order
 pub mod Rows

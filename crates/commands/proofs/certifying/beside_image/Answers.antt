@@ -6,10 +6,10 @@ use Rattle.commands.proofs.certifying.beside_image.Goals as goal
 pub returns : goal.returns
 returns c = record {
   image = c.in_ok-fitted.fitted;
-  table = c.args.solved.now;
+  table = c.args.least.now.table;
   certified = record {
     fitted = c.in_ok-fitted.ensures.fitted;
-    least = c.requires.least;
+    least = c.requires.least.least;
     forms = c.in_ok-fitted.ensures.forms;
     statuses = c.in_ok-fitted.ensures.statuses;
     within = subst (λ (b : List ℕ). length b ≤ MAX_TABLE) c.requires.spelled c.requires.within;

@@ -9,7 +9,7 @@ returns-clause-fitted c = let i = c.in_ok-image.image in record {
   kernel = record {
     is = c.in_ok-image.ensures.app;
     spelled = record { within = small i; fits = c.read_numbers.ensures; spelled = refl };
-    runs = c.in_ok-image.ensures.kernel c.requires.table.least.inductive;
+    runs = c.in_ok-image.ensures.kernel c.requires.least.least.least.inductive;
   };
-  forms = record { table = sets_of c.args.table.now; least = c.requires.table.least; forms = c.in_ok-image.ensures.forms; statuses = c.in_ok-image.ensures.statuses; version = c.in_ok-image.ensures.version };
+  forms = record { table = sets_of c.args.least.now.table; least = c.requires.least.least.least; forms = c.in_ok-image.ensures.forms; statuses = c.in_ok-image.ensures.statuses; version = c.in_ok-image.ensures.version };
 }

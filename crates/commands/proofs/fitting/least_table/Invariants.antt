@@ -1,5 +1,5 @@
 -- the evaluations are counted in a ledger of their own
 use Rattle.commands.proofs.fitting.least_table.Given as goal
 
-abbrev pub ghosts-solved : goal.ghosts-solved
-ghosts-solved a = record { name = a.blank.name; parts = a.blank.parts }
+abbrev pub ghosts-explored : goal.ghosts-explored
+ghosts-explored a = record { name = a.blank.name; parts = a.blank.parts }

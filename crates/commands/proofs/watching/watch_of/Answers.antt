@@ -4,4 +4,4 @@ use Rattle.commands.proofs.watching.watch_of.Goals as goal
 
 pub returns : goal.returns
 returns c =
-    IfOk-weaker c.new-watch.result _ _ (λ w of. record { table = c.in_ok-table.table; least = c.in_ok-table.ensures; watch = of }) c.new-watch.ensures.watch
+    IfOk-weaker c.with-watch.result _ _ (λ w of. record { table = c.in_ok-least.least.table; least = c.in_ok-least.ensures.least; watch = of }) c.with-watch.ensures.watch

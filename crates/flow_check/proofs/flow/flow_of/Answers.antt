@@ -6,7 +6,7 @@ use Rattle.abstract_state.specs.{declared.table.TableRow.{TableRow}, Tables.{set
 use Rattle.numbered_sets.specs.{declared.table.NumberedRow.{NumberedRow}, Pools.{IsLonger}, PlainTables.{plain_row, plain_rows, plain_table}}
 use Rattle.numbered_sets.proofs.NumberingLaws.{longer_itself, longer_onward}
 use Rattle.point_exits.specs.{declared.group.ExitGroup.{ExitGroup}, Groups.{all_exits}, Rows.{IsProperRow}}
-use Rattle.table_rows.{specs.Rows.{AreExitsOf}, proofs.TableRows.{in_order, pool_alike}}
+use Rattle.table_rows.{specs.{BareExits.{AreBare, AreBareExitsOf}, Rows.{AreExitsOf}}, proofs.TableRows.{in_order, pool_alike}}
 use Rattle.flow_check.specs.{Staying.{AreAllIn, IsSomeGroupOut}, Outcomes.{AreFound}, Flows.{StaysFrom}}
 use Rattle.flow_check.proofs.{RowOutcomes.{stands_known}, GroupEnds.{set_for}}
 use Rattle.flow_check.proofs.FlowLaws.{numbers_there, proper_there, next_row, stays_there, leaves_there, flow_leaves, flow_stays}
@@ -45,8 +45,8 @@ all_stay-requires-clause-sets c = λ g m.
 pub all_stay-requires-clause-order : goal.all_stay-requires-clause-order
 all_stay-requires-clause-order c = in_order c.args.app.now c.args.pool c.args.rows.now c.requires.rows
 
-pub add_groups-requires : goal.add_groups-requires
-add_groups-requires c = λ b stands.
+pub add_exits-requires : goal.add_exits-requires
+add_exits-requires c = λ b stands.
     let row = c.row-item.result in
     let proper = proper_there c.args.app.now c.args.pool c.args.rows.now c.requires.rows c.loop-row.numbering.pool c.loop-row.invariant.passed.longer c.loop-row.row-index row c.loop-row-test.true c.row-item.is in
     omega (arith, stands_known c.args.app.now row.point b proper.row.point stands, c.loop-row.invariant.passed.found.count)
@@ -67,15 +67,16 @@ loop-row-preserved c =
     let groups = c.in_ok-groups.groups.items in
     let all = subst (λ (gs : List ExitGroup). AreAllIn rows gs) c.as_slice.ensures.value (OnTrue_at c.if-not-stay.false c.in_ok-stay.ensures.stay) in
     let here : StaysFrom app (sets_of (plain_table first rows)) row.point = stays_there app first rows c.requires.rows pool longer k row lt is after c.row_groups.ensures.grown.pool groups exits all in
-    let its = subst (λ (gs : List ExitGroup). AreExitsOf app (plain_row pool row) (all_exits after gs)) (sym c.as_slice-in-loop-row.ensures.value) exits in
+    let bare = subst (λ (gs : List ExitGroup). AreBare (all_exits after gs) c.in_ok-exits.exits) c.as_slice-in-loop-row.ensures.value (c.in_ok-exits.ensures after) in
+    let its : AreBareExitsOf app (plain_row pool row) c.as_slice-in-loop-row-2.result.now = record { whole = all_exits after groups; are = exits; bare = subst (AreBare (all_exits after groups)) (sym c.as_slice-in-loop-row-2.ensures) bare } in
     record {
       app = c.row_groups.ensures.grown.app ∙ c.loop-row.invariant.app;
       passed = record {
         longer = longer_onward first pool after longer c.row_groups.ensures.grown.pool;
         found =
-            subst (λ (done : List TableRow). AreFound app done c.add_groups.new.sites)
+            subst (λ (done : List TableRow). AreFound app done c.add_exits.new.sites)
             (next_row app first rows c.requires.rows pool longer k row lt is (take k (plain_rows first rows) ++ plain_row pool row ∷ []) refl)
-            (c.add_groups.ensures app after (take k (plain_rows first rows)) (plain_row pool row) refl its c.loop-row.invariant.passed.found);
+            (c.add_exits.ensures app (take k (plain_rows first rows)) (plain_row pool row) refl its c.loop-row.invariant.passed.found);
         stay = λ i d below. elim (cases_lt i k) [
           | inl before ↦ c.loop-row.invariant.passed.stay i d before
           | inr le ↦

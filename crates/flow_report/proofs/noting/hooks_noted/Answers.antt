@@ -9,9 +9,9 @@ returns c =
     let app = c.args.app.now in
     let table = c.args.table.now in
     both_hooks (λ (h : ℕ). NotesAtStart app h (length app.modes)) (λ (h : ℕ). NotesInRows app h table.rows) (λ (h : ℕ). NotesAtStart app h (length app.modes) ⊎ NotesInTable app h (sets_of table))
-    c.in_ok-at_start.at_start c.in_ok-of_steps.of_steps c.with.result (λ h n. inl n) (λ h n. inr (in_table app table c.requires h n))
+    c.in_ok-at_start.at_start c.in_ok-of_steps.of_steps c.with.result (λ h n. inl n) (λ h n. inr (in_table app table c.requires.written h n))
     (λ h n. elim n [
       | inl at ↦ inl at
-      | inr of ↦ inr (in_rows app table c.requires h of)
+      | inr of ↦ inr (in_rows app table c.requires.written h of)
     ])
     c.in_ok-at_start.ensures c.in_ok-of_steps.ensures c.with.ensures

@@ -1,28 +1,27 @@
-use Rattle.std.proofs.{Common.{rules, [], List, subst, take}, lemmas.List.{take_all}}
+use Rattle.std.proofs.{Common.{rules, [], ◌∷◌, List, sym, subst, take}, lemmas.List.{take_all, take_more}}
 use Rattle.osek_standard.specs.Points.{point_number}
-use Rattle.flow_exits.specs.declared.exit.Exit.{Exit}
-use Rattle.point_exits.specs.{declared.group.ExitGroup.{ExitGroup}, Groups.{exits_of, all_exits}}
-use Rattle.point_exits.proofs.GroupLaws.{groups_more}
+use Rattle.table_rows.specs.declared.bare.BareExit.{BareExit}
 use Rattle.table_rows.proofs.OrderLaws.{ascend_none}
 use Rattle.global_cfg.specs.Targets.{AreEndsPut}
 use Rattle.global_cfg.proofs.PuttingIn.{no_exits, exits_then}
 use Rattle.global_cfg.proofs.targets.targets.Goals as goal
 
-pub loop-group-init : goal.loop-group-init
-loop-group-init c = λ pool. search (rules, no_exits c.args.from [] (ascend_none point_number))
+pub loop-exit-init : goal.loop-exit-init
+loop-exit-init c = search (rules, no_exits c.args.from [] (ascend_none point_number))
 
-pub put_group-requires : goal.put_group-requires
-put_group-requires c = (c.loop-group.invariant []).order
+pub put_target-requires : goal.put_target-requires
+put_target-requires c = c.loop-exit.invariant.order
 
-pub loop-group-preserved : goal.loop-group-preserved
-loop-group-preserved c = λ pool.
-    let items = c.args.groups.now in
-    let i = c.loop-group.group-index in
-    let group = c.group-item.result in
+pub loop-exit-preserved : goal.loop-exit-preserved
+loop-exit-preserved c =
+    let items = c.args.exits.now in
+    let i = c.loop-exit.exit-index in
     let p = c.args.from in
-    subst (λ (done : List Exit). AreEndsPut p done [] c.put_group.new.points.items) (groups_more pool items i group c.loop-group-test.true c.group-item.is)
-    (exits_then p (all_exits pool (take i items)) (exits_of pool group) [] c.loop-group.targets.items c.put_group.new.points.items (c.loop-group.invariant pool) (c.in_ok-put_group.ensures pool))
+    subst (λ (done : List BareExit). AreEndsPut p done [] c.put_target.new.points.items) (sym (take_more items i _ c.loop-exit-test.true))
+    (exits_then p (take i items) (_ ∷ []) [] c.loop-exit.targets.items c.put_target.new.points.items c.loop-exit.invariant c.in_ok-put_target.ensures)
 
 pub returns : goal.returns
-returns c = λ pool.
-    subst (λ (done : List ExitGroup). AreEndsPut c.args.from (all_exits pool done) [] c.loop-group.targets.items) (take_all c.loop-group.group-index c.args.groups.now c.loop-group-test.false) (c.loop-group.invariant pool)
+returns c =
+    subst (λ (done : List BareExit). AreEndsPut c.args.from done [] c.loop-exit.targets.items)
+    (take_all c.loop-exit.exit-index c.args.exits.now c.loop-exit-test.false)
+    c.loop-exit.invariant

@@ -1,8 +1,6 @@
-use Rattle.std.proofs.Common.{List, [], take}
-use Rattle.numbered_sets.specs.Pools.{Values}
-use Rattle.point_exits.specs.Groups.{all_exits}
+use Rattle.std.proofs.Common.{[], take}
 use Rattle.global_cfg.specs.Targets.{AreEndsPut}
 use Rattle.global_cfg.proofs.targets.targets.Given as goal
 
-abbrev pub invariant-loop-group : goal.invariant-loop-group
-invariant-loop-group l = (pool : List Values) → AreEndsPut l.from (all_exits pool (take l.group-index l.groups)) [] l.targets.items
+abbrev pub invariant-loop-exit : goal.invariant-loop-exit
+invariant-loop-exit l = AreEndsPut l.from (take l.exit-index l.exits) [] l.targets.items

@@ -3,7 +3,7 @@ use Rattle.std.specs.Prelude.{Contains}
 use Rattle.std.proofs.lemmas.{Result.{on_ok_weaker}}
 use Rattle.numbered_sets.specs.{declared.{numbered_entry.NumberedEntry.{NumberedEntry}, table.NumberedRow.{NumberedRow}}, PlainTables.{plain_rows}}
 use Rattle.state_flow.specs.{declared.cells.Cell.{Cell}, PlainCells.{plain_cells}, Numbering.{AreNumberedCells, AreEvaluated}}
-use Rattle.state_flow.proofs.{NumberedCells.{lent_there, numbers_there, proper_there, kept_long, asked_cells, progress_on}, EvaluatedExits.{numbers_filled, part_known}}
+use Rattle.state_flow.proofs.{NumberedCells.{lent_there, numbers_there, proper_there, kept_long, exits_there, asked_cells, progress_on}, EvaluatedExits.{numbers_filled, part_known}}
 use Rattle.state_flow.proofs.evaluation.evaluate_news.Goals as goal
 
 pub rows_to_evaluate-requires-clause-filled : goal.rows_to_evaluate-requires-clause-filled
@@ -26,7 +26,7 @@ evaluate_each-requires-clause-cells c =
     let cell = c.get_mut-cell.result.now in
     let kept = c.rows_to_evaluate.new.cell.before in
     subst (λ (x : Cell NumberedEntry). AreNumberedCells app pool (set cells c.args.place x)) (sym c.rows_to_evaluate.ensures.stays)
-    (asked_cells app pool cells c.args.place cell c.requires.cells c.requires.waits (lent_there c.args.cells.now.list.items c.args.place c.index_mut.result.now c.get_mut-cell.result.now c.get_mut-cell.ensures.value c.index_mut.ensures.value) kept c.in_ok-rows.ensures.kept)
+    (asked_cells app pool cells c.args.place cell c.requires.cells c.requires.waits (lent_there c.args.cells.now.list.items c.args.place c.index_mut.result.now c.get_mut-cell.result.now c.get_mut-cell.ensures.value c.index_mut.ensures.value) kept c.in_ok-rows.ensures.kept cell.exits)
 
 pub evaluate_each-requires-clause-rows : goal.evaluate_each-requires-clause-rows
 evaluate_each-requires-clause-rows c row m =
@@ -45,12 +45,14 @@ returns-clause-progress c =
     let cells = c.args.cells.now.list.items in
     let cell = c.get_mut-cell.result.now in
     let kept = c.rows_to_evaluate.new.cell.before in
+    let here = lent_there cells c.args.place c.index_mut.result.now cell c.get_mut-cell.ensures.value c.index_mut.ensures.value in
     let rows = c.in_ok-rows.rows.items in
     let after = c.evaluate_each.new.numbering.pool in
     let end = c.evaluate_each.new.cells.list.items in
     on_ok_weaker c.evaluate_each.result
     (λ done n progress.
-    progress_on app pool cells c.args.place cell c.requires.cells c.requires.waits (lent_there c.args.cells.now.list.items c.args.place c.index_mut.result.now c.get_mut-cell.result.now c.get_mut-cell.ensures.value c.index_mut.ensures.value) kept c.in_ok-rows.ensures.kept rows after end done.known c.in_ok-rows.ensures.rows
+    progress_on app pool cells c.args.place cell c.requires.cells c.requires.waits here kept c.in_ok-rows.ensures.kept cell.exits rows after end done.known c.in_ok-rows.ensures.rows
+    (exits_there app pool cells c.args.place cell c.requires.cells c.requires.waits here n progress)
     (subst (λ (x : Cell NumberedEntry). AreEvaluated app (plain_rows pool rows) (plain_cells pool (set cells c.args.place x)) (plain_cells after end)) c.rows_to_evaluate.ensures.stays
     (subst (λ (xs : List NumberedRow). AreEvaluated app (plain_rows pool xs) (plain_cells pool (set cells c.args.place c.rows_to_evaluate.new.cell)) (plain_cells after end)) c.as_slice.ensures.value done.evaluated)) n progress)
     c.evaluate_each.ensures.evaluated
