@@ -17,3 +17,4 @@ pub mod CellRows
 pub mod ExitJoins
 pub mod EvaluatedExits
 pub mod JoinedEnds
+pub mod EndsInTurn

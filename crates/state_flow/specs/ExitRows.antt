@@ -37,6 +37,10 @@ pub record AreRowsJoined (app : App) (pool : List Values) (cells : List (Cell Nu
   pub known : AreCellsOf pool now
   pub joined : AreJoined app (plain_cells pool cells) rows (plain_cells pool now)
 
+-- all ends have numbers of one component
+abbrev pub AreOfOne : List NumberEnd → Type 0
+AreOfOne xs = (x y : NumberEnd) → Contains xs x → Contains xs y → x.component ≡ y.component
+
 -- ---- ends that together have what the entry has
 
 -- each number of the end is one of the entry's

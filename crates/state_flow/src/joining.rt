@@ -2,7 +2,7 @@
 ghost use Rattle.std.specs.{Prelude.{◌≡◌, [], ◌∷◌, Contains, OnOk, IfSome}, Bool.{OnTrue}};
 ghost use Rattle.numbered_sets.specs.Views.{AreNumbersOf};
 ghost use Rattle.point_exits.specs.{declared.group.NumberEnd.{NumberEnd}, Groups.{IsKnownEnd, IsKnownGroup, AreKnownGroups}, Rows.{IsProperRow}};
-ghost use Rattle.state_flow.specs.{Numbering.{AreNumberedCells}, ExitRows.{rows_at, end_row, rows_with, rows_by, all_rows, AreProperRows, AreRowsJoined, IsPart, AreTogether}};
+ghost use Rattle.state_flow.specs.{Numbering.{AreNumberedCells}, ExitRows.{rows_at, end_row, rows_with, rows_by, all_rows, AreProperRows, AreRowsJoined, IsPart, AreTogether, AreOfOne}};
 
 use crate::cells::Cells;
 use crate::numbered_cells::put_in;
@@ -92,9 +92,48 @@ fn join_with(
         masks_are_few(app);
         return put_in(alloc, app, pool, cells, target, &entry);
     }
+    if are_of_one(ends) {
+        return join_in_turn(alloc, app, ends, entry, pool, cells);
+    }
     let mut held = entry;
     for end in ends {
         join_end(alloc, app, end, &mut held, pool, cells)?;
+    }
+    Ok(())
+}
+
+// whether all ends have numbers of one component
+fn are_of_one(ends: &[NumberEnd]) -> bool
+    ensures { OnTrue result (AreOfOne ends.now) }
+{
+    for end in ends {
+        if end.component != ends[0].component {
+            return false;
+        }
+    }
+    true
+}
+
+// The same where all ends have numbers of one component: each end's take the place of the last one's.
+fn join_in_turn(
+    alloc: Global,
+    app: &App,
+    ends: &[NumberEnd],
+    entry: NumberedEntry,
+    pool: &Pool,
+    cells: &mut Cells<NumberedEntry>,
+) -> Result<(), Memory>
+    requires one { AreOfOne ends.now }
+    requires known { AreNumbersOf pool.now entry }
+    requires ends { (x : NumberEnd) → Contains ends.now x → IsKnownEnd pool.now entry x }
+    requires proper { AreProperRows app.now (rows_with pool.now entry ends.now) }
+    requires cells { AreNumberedCells app.now pool.now cells.old.list.items }
+    ensures { OnOk result (AreRowsJoined app.now pool.now cells.old.list.items (rows_with pool.now entry ends.now) cells.new.list.items) }
+{
+    let mut held = entry;
+    for end in ends {
+        held.sets.put(end.component, &end.numbers)?;
+        put_in(alloc, app, pool, cells, end.target, &held)?;
     }
     Ok(())
 }
