@@ -4,8 +4,8 @@ use Rattle.std.specs.{Prelude.{Contains}, List.{insert}}
 use Rattle.std.proofs.lemmas.{Bool.{cases_eq}, List.{length-set, get_or_default}}
 use Rattle.std.proofs.lemmas.List.{Elements.{Contains-get_or}, Edits.{length-insert}, Sums.{sum_by-set, sum_by-insert}}
 use Rattle.osek_standard.specs.{declared.point.Point.{Point}, Points.{point_number}}
-use Rattle.table_rows.specs.{declared.bare.BareExit.{BareExit}, Order.{AscendBy, IsPlaceBy, IsGapBy}}
-use Rattle.table_rows.proofs.{ListEdits.{insert_has, insert_stays, insert_place, insert_cases}, OrderLaws.{ascend_alike, place_alike, gap_alike, ascend_set, ascend_insert}}
+use Rattle.table_rows.specs.{declared.bare.BareExit.{BareExit}, Order.{IsPlaceBy, IsGapBy}}
+use Rattle.table_rows.proofs.{ListEdits.{insert_has, insert_stays, insert_place, insert_cases}, OrderLaws.{place_alike, gap_alike, ascend_set, ascend_insert}}
 use Rattle.state_flow.specs.declared.cells.Cell.{Cell}
 use Rattle.state_flow.specs.Cells.{cell_number, reached_cell, AreCellsInOrder, WasEvaluatedWith, waits, MayJoin, HasAbove, IsRaised, IsJoined}
 
@@ -36,10 +36,7 @@ module _ {E : Type 0} where
   told_number cell = cell.number
 
   module _ (cells : List (Cell E)) (order : AreCellsInOrder cells) where
-    -- they are in the order of the numbers that they tell, and a place by these is one by their points'
-    pub by_told : AscendBy told_number cells
-    by_told = ascend_alike cell_number told_number cells (λ k d lt. sym (order.told k d lt)) order.ascend
-
+    -- a place by the numbers that they tell is one by their points'
     pub place_told : (n place : ℕ) → IsPlaceBy told_number cells n place → IsPlaceBy cell_number cells n place
     place_told = place_alike told_number cell_number cells order.told
 

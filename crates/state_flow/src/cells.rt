@@ -5,6 +5,7 @@ ghost use Rattle.state_flow.specs.Cells.{IsWaitingCell, NoneWaits};
 use crate::agenda::{Agenda, Growth, Urgent};
 use crate::kept::Kept;
 use crate::lattice::Lattice;
+use crate::places::Places;
 use osek_standard::Point;
 use osek_values::{Memory, Seq};
 use std::alloc::Global;
@@ -87,10 +88,12 @@ impl<E> Keyed for Kept<Cell<E>> {
 pub struct Cells<E> {
     pub list: Vec<Kept<Cell<E>>>,
     agenda: Agenda,
+    places: Places,
 }
 
 impl<E> Cells<E> {
-    ghost use Rattle.std.specs.Prelude.{◌≡◌, [], IfSome, IfNone};
+    ghost use Rattle.std.specs.Prelude.{◌≡◌, [], IfSome, IfNone, IfOk, IfErr};
+    ghost use Rattle.table_rows.specs.Order.{IsPlaceBy, IsGapBy};
     ghost use Rattle.state_flow.specs.Cells.{AreCellsInOrder, IsWaitingCell, NoneWaits};
 
     /// No point.
@@ -100,6 +103,7 @@ impl<E> Cells<E> {
         Cells {
             list: Vec::new(alloc),
             agenda: Agenda::new(alloc),
+            places: Places::new(alloc),
         }
     }
 
@@ -131,12 +135,25 @@ impl<E> Cells<E> {
         None
     }
 
+    // the place of a point's cell, or the one where it belongs: mostly it stands where it stood when it was looked for last
+    fn place(&self, number: u32) -> Result<usize, usize>
+        requires { AreCellsInOrder self.now.list.items }
+        ensures place { IfOk result (IsPlaceBy (λ cell. cell.number) self.now.list.items number) }
+        ensures gap { IfErr result (IsGapBy (λ cell. cell.number) self.now.list.items number) }
+    {
+        let place = self.places.last(number);
+        if place < self.list.len() && self.list[place].get().number == number {
+            return Ok(place);
+        }
+        place_of(self.list.as_slice(), number)
+    }
+
     // the place of a point that was put on the agenda, if it waits and wasn't evaluated since
     fn waiting_as(&self, urgent: Urgent) -> Option<usize>
         requires { AreCellsInOrder self.now.list.items }
         ensures { IfSome result (IsWaitingCell self.now.list.items) }
     {
-        let Ok(place) = place_of(self.list.as_slice(), urgent.number()) else {
+        let Ok(place) = self.place(urgent.number()) else {
             return None;
         };
         let cell = self.list[place].get();
@@ -157,8 +174,9 @@ impl<E: Lattice + Drop> Cells<E> {
         requires may { MayJoin E.is_element E.alike self.old.list.items point entry.now }
         ensures { OnOk result (IsJoined E.is_element E.alike E.is_below E.rank self.old.list.items point entry.now self.new.list.items) }
     {
-        match place_of(self.list.as_slice(), point.number()) {
+        match self.place(point.number()) {
             Ok(place) => {
+                self.places.note(point.number(), place)?;
                 if let Some(urgent) = self.list[place].get_mut().raise(entry)? {
                     self.agenda.push(urgent)?;
                 }

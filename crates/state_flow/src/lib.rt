@@ -13,6 +13,7 @@ mod least_table;
 mod numbered;
 mod numbered_cells;
 mod parts;
+mod places;
 
 pub use counts::values;
 pub use lattice::Lattice;

@@ -86,9 +86,6 @@ module _ {X : Type 0} (key : X → ℕ) where
 
 -- Two keys that are the same for each element.
 module _ {X : Type 0} (key other : X → ℕ) (xs : List X) (same : (k : ℕ) (d : X) → k < length xs → key (get_or xs k d) ≡ other (get_or xs k d)) where
-  pub ascend_alike : AscendBy key xs → AscendBy other xs
-  ascend_alike order = record { before = λ i j d lt below. omega (arith, order.before i j d lt below, same i d (omega (arith, lt, below)), same j d below) }
-
   pub place_alike : (n place : ℕ) → IsPlaceBy key xs n place → IsPlaceBy other xs n place
   place_alike n place at = record { known = at.known; is = λ d. sym (same place d at.known) ∙ at.is d }
 
